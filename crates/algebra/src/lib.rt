@@ -1,0 +1,1 @@
+// Commutative rings: definitions in specs/, lemmas in proofs/. There is no code.

@@ -1,0 +1,3 @@
+pub mod Magnitudes
+pub mod Whole
+pub mod Laws

@@ -1,0 +1,5 @@
+pub mod Tables
+pub mod Updates
+pub mod Scans
+pub mod Products
+pub mod Steps
