@@ -10,14 +10,15 @@ use borrow.Author.Count.{below-more}
 use Rattle.algebra.specs.Ring.{RingLaws}
 use Rattle.algebra.proofs.Ring.{zero-mul}
 use Rattle.algebra.proofs.Sum.{sum-more, sum-zero}
-use Rattle.kinds.specs.declared.ElementFault.{ElementFault}
 use Rattle.kinds.specs.declared.ElementFault.the-variants.{Range}
 use Rattle.kinds.specs.Laws.{RangeLaws}
 use Rattle.kinds.specs.Model.{Model}
+use Rattle.presentation.specs.declared.fault.Place.{Place}
 use Rattle.presentation.specs.declared.fault.Table.the-variants.{Work}
 use Rattle.presentation.specs.declared.fault.TableFault.{TableFault}
 use Rattle.presentation.specs.declared.table.Axis.the-variants.{Row}
-use Rattle.presentation.specs.Places.{faultAt, meant, Written}
+use Rattle.presentation.specs.Faults.{faulted}
+use Rattle.presentation.specs.Places.{position, meant, Written}
 use Rattle.presentation.specs.Rests.{member}
 use Rattle.presentation.specs.Products.{dot, ZeroRow, Sums, Cleared, Put, UnfitSum}
 use Rattle.presentation.proofs.Tables.{meant-at, meant-read, meant-set-same, meant-set-other}
@@ -48,21 +49,21 @@ module _ {E S : Type 0} (m : Model E S) where
     others = λ p d h. let ne : p ≢ 32 * i + n = h n (omega arith) in rw getD-set-other (inv .others p d (λ j l. h j (omega arith)));
   }
 
+  pub unfit-sum : (laws : RangeLaws m) (n i k : ℕ) (row t line : List E) (d : E) (p : Place) (f : TableFault)
+      → k < n → p ≡ position Row Work i k → (f ≡ faulted p Range) × (m .Fits (dot m n row t k) → ⊥) → Sums m n row t k line → UnfitSum m n row t i f
+  unfit-sum laws n i k row t line d p f h ep (ef, no-fit) inv = record {
+    at = k;
+    inside = h;
+    is = ef ∙ ap (λ p. faulted p Range) ep;
+    here = no-fit;
+    before = λ j l. subst (m .Fits) (inv j d l) (laws .mean-fits (getD line j d));
+  }
+
   pub sums-more : (n k : ℕ) (row t line : List E) (x : E) → k < length line → m .mean x ≡ dot m n row t k → Sums m n row t k line → Sums m n row t (k + 1) (set line k x)
   sums-more n k row t line x h ex inv j d l =
       below-more (λ j. m .mean (getD (set line k x) j d) ≡ dot m n row t j) k
       (λ j b. let ne : j ≢ k = omega arith in rw getD-set-other (inv j d b))
       (rw getD-set-same ex) j l
-
-  pub unfit-sum : (laws : RangeLaws m) (n i k : ℕ) (row t line : List E) (d : E) (e : ElementFault) → k < n → (e ≡ Range) × (m .Fits (dot m n row t k) → ⊥) → Sums m n row t k line
-      → UnfitSum m n row t i (faultAt Row Work i k e)
-  unfit-sum laws n i k row t line d e h (er, no-fit) inv = record {
-    at = k;
-    inside = h;
-    is = ap (faultAt Row Work i k) er;
-    here = no-fit;
-    before = λ j l. subst (m .Fits) (inv j d l) (laws .mean-fits (getD line j d));
-  }
 
   pub written-put : (n i k l : ℕ) (row t line old new : List E) (d : E) → i < 32 → n ≤ 32 → 1024 ≤ length new → n ≤ k → n ≡ l
       → Sums m n row t k line → Written Row i l line old new → Put m n row t i old new

@@ -40,9 +40,6 @@ seen-row s i j P n before a b h (inl e) = go (cases-lt a i)
     go (inl l) = before a b h (inl l)
     go (inr l) = before a b h (inr (omega (arith, e), omega (arith, h .column-below)))
 
-pub seen-all : (s : Shape) (i j : ℕ) (P : ℕ → ℕ → Type 0) → s .m ≤ i → Seen s i j P → (a b : ℕ) → In s a b → P a b
-seen-all s i j P m before a b h = before a b h (inl (omega (arith, h .row-below)))
-
 pub within : (s : Shape) (i j : ℕ) → s .c ≤ i → i < s .m → s .c ≤ j → j < s .n → In s i j
 within s i j a b c d = record { row-from = a; row-below = b; column-from = c; column-below = d }
 

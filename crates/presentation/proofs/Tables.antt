@@ -1,7 +1,7 @@
 -- Writing rows and columns of a table, one entry after another.
 use mathlib.Core.Path.{_≡_, refl, sym, ap, _∙_}
 use mathlib.Core.List.{List, [], _∷_}
-use mathlib.Core.Logic.{_≢_}
+use mathlib.Core.Logic.{_≢_, _⊎_, inl, inr}
 use Prim.Native.Nat.{ℕ, zero, suc, _+_, _*_, _<_, _≤_}
 use native.Mathlib.Nat.{le-of-suc-le-suc, not-suc-le-zero}
 use native.Mathlib.Omega.{arith}
@@ -9,10 +9,11 @@ use lib.ListN.{length, getD, set, length-set}
 use lib.Seq.{getD-set-same, getD-set-other}
 use borrow.Author.Count.{below-more}
 use Rattle.std.proofs.shelf.Lists.{getD-read}
+use Rattle.std.proofs.shelf.Tests.{cases-lt}
 use Rattle.kinds.specs.Model.{Model}
 use Rattle.presentation.specs.declared.table.Axis.{Axis}
 use Rattle.presentation.specs.declared.table.Axis.the-variants.{Row, Column}
-use Rattle.presentation.specs.Places.{place, meant, Written, Swapped, Grown}
+use Rattle.presentation.specs.Places.{place, meant, Written, Swapped, Identity, Grown}
 
 -- entries of different numbers stand apart
 pub place-apart : (axis : Axis) (a b k j : ℕ) → a < 32 → b < 32 → k < 32 → j < 32 → place axis a k ≡ place axis b j → k ≡ j
@@ -73,6 +74,11 @@ module _ {E S : Type 0} (m : Model E S) where
   pub meant-read : (xs : List E) (i : ℕ) (x : E) → i < length xs → x ≡ getD xs i x → m .mean x ≡ meant m xs i
   meant-read xs i x h e = ap (m .mean) e ∙ meant-at xs i x h
 
+  -- a place that was kept means what it meant
+  pub meant-kept : (old new : List E) (p : ℕ) → p < length old → length new ≡ length old → ((d : E) → getD new p d ≡ getD old p d) → meant m new p ≡ meant m old p
+  meant-kept [] new p h e kept = absurd (not-suc-le-zero h)
+  meant-kept (x ∷ xs) new p h e kept = sym (meant-at new p x (omega arith)) ∙ ap (m .mean) (kept x) ∙ meant-at (x ∷ xs) p x h
+
   pub meant-set-same : (xs : List E) (i : ℕ) (x : E) → i < length xs → meant m (set xs i x) i ≡ m .mean x
   meant-set-same [] i x h = absurd (not-suc-le-zero h)
   meant-set-same (y ∷ xs) zero x h = refl
@@ -121,3 +127,29 @@ module _ {E S : Type 0} (m : Model E S) where
     corner = let e : at ≡ 32 * size + size = omega arith in rw (← e) (meant-set-same t at one (omega arith) ∙ eo);
     others = λ p d h g. let ne : p ≢ at = λ e. h size (omega arith) (omega arith) in rw getD-set-other (inv .others p d (λ j l. h j (omega arith)) (λ j l. g j (omega arith)));
   }
+
+  pub identity-none : (old : List E) → Identity m 0 old old
+  identity-none old = record { diagonal = λ i h. absurd (omega arith); off = λ i j h g n. absurd (omega arith); others = λ p d h. refl }
+
+  pub identity-more : (k : ℕ) (old t t′ : List E) → k < 32 → 1024 ≤ length t → length t′ ≡ length t
+      → Grown m k t t′ → Identity m k old t → Identity m (k + 1) old t′
+  identity-more k old t t′ kl tl el g inv = record { diagonal = diagonal; off = off; others = others }
+    where
+      -- the entries of the smaller square are as they were
+      inner : (i j : ℕ) → i < k → j < k → meant m t′ (32 * i + j) ≡ meant m t (32 * i + j)
+      inner i j a b = meant-kept t t′ (32 * i + j) (omega arith) el (λ d. g .others (32 * i + j) d (λ x h e. omega arith) (λ x h e. omega arith))
+
+      diagonal : (i : ℕ) → i < k + 1 → meant m t′ (32 * i + i) ≡ m .ring .one
+      diagonal = below-more (λ i. meant m t′ (32 * i + i) ≡ m .ring .one) k (λ i h. inner i i h h ∙ inv .diagonal i h) (g .corner)
+
+      off : (i j : ℕ) → i < k + 1 → j < k + 1 → (i ≡ j → ⊥) → meant m t′ (32 * i + j) ≡ m .ring .zero
+      off i j a b n = go (cases-lt i k) (cases-lt j k)
+        where
+          go : (i < k) ⊎ (k ≤ i) → (j < k) ⊎ (k ≤ j) → meant m t′ (32 * i + j) ≡ m .ring .zero
+          go (inl p) (inl q) = inner i j p q ∙ inv .off i j p q n
+          go (inl p) (inr q) = let e : j ≡ k = omega arith in rw e (g .column i p)
+          go (inr p) (inl q) = let e : i ≡ k = omega arith in rw e (g .row j q)
+          go (inr p) (inr q) = absurd (n (omega arith))
+
+      others : (p : ℕ) (d : E) → ((i j : ℕ) → i < k + 1 → j < k + 1 → p ≡ 32 * i + j → ⊥) → getD t′ p d ≡ getD old p d
+      others p d h = g .others p d (λ x l. h k x (omega arith) (omega arith)) (λ x l. h x k (omega arith) (omega arith)) ∙ inv .others p d (λ i j a b. h i j (omega arith) (omega arith))

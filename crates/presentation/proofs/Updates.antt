@@ -7,17 +7,21 @@ use native.Mathlib.Omega.{arith}
 use lib.ListN.{length, getD, set}
 use lib.Seq.{getD-set-other}
 use borrow.Author.Count.{below-more}
+use Rattle.std.specs.declared.result.Result.{Result}
+use Rattle.std.specs.declared.result.Result.the-variants.{Ok, Err}
 use Rattle.kinds.specs.declared.ElementFault.{ElementFault}
 use Rattle.kinds.specs.declared.ElementFault.the-variants.{Range}
 use Rattle.kinds.specs.Laws.{RangeLaws}
 use Rattle.kinds.specs.Model.{Model}
+use Rattle.presentation.specs.declared.fault.Place.{Place}
 use Rattle.presentation.specs.declared.fault.Table.{Table}
 use Rattle.presentation.specs.declared.fault.TableFault.{TableFault}
 use Rattle.presentation.specs.declared.table.Axis.{Axis}
 use Rattle.presentation.specs.declared.operation.Update.{Update}
-use Rattle.presentation.specs.Places.{place, faultAt, meant}
-use Rattle.presentation.specs.Operations.{changed, newEntry, Fit-update, Unfit-update, Changed}
-use Rattle.presentation.proofs.Tables.{place-apart, place-below, meant-at, meant-read, meant-set-same, meant-set-other}
+use Rattle.presentation.specs.Faults.{faulted, Placed-at}
+use Rattle.presentation.specs.Places.{place, position, meant}
+use Rattle.presentation.specs.Operations.{changed, NewEntry, newEntry, Fit-update, Unfit-update, Changed}
+use Rattle.presentation.proofs.Tables.{place-apart, place-below, meant-kept, meant-read, meant-set-same, meant-set-other}
 
 module _ {E S : Type 0} (m : Model E S) where
   -- what is computed of the entries that were read is entry k of the new line
@@ -35,13 +39,22 @@ module _ {E S : Type 0} (m : Model E S) where
       → m .mean z ≡ a → a ≡ newEntry m u axis t k → Fit-update m u axis k t → Fit-update m u axis (k + 1) t
   fit-more u axis t k z a laws ez ea inv = below-more (λ j. m .Fits (newEntry m u axis t j)) k inv (subst (m .Fits) (ez ∙ ea) (laws .mean-fits z))
 
-  pub unfit : (u : Update E) (table : Table) (axis : Axis) (t : List E) (len k : ℕ) (a : m .Member) (f : TableFault) (e : ElementFault)
-      → k < len → f ≡ faultAt axis table (u .to) k e → (e ≡ Range) × (m .Fits a → ⊥) → a ≡ newEntry m u axis t k → Fit-update m u axis k t
+  -- an element's answer at a place: the member that it means, or the fault of one that does not fit
+  abbrev pub NewAt : Place → m .Member → Result E TableFault → Type 0
+  NewAt p a (Ok z) = m .mean z ≡ a
+  NewAt p a (Err f) = (f ≡ faulted p Range) × (m .Fits a → ⊥)
+
+  pub new-at : (p : Place) (a : m .Member) (r : Result E ElementFault) (r′ : Result E TableFault) → NewEntry m a r → Placed-at p r r′ → NewAt p a r′
+  new-at p a (Ok z) r′ h e = rw e h
+  new-at p a (Err f) r′ h e = rw e (ap (faulted p) (h .0), h .1)
+
+  pub unfit : (u : Update E) (table : Table) (axis : Axis) (t : List E) (len k : ℕ) (a : m .Member) (p : Place) (f : TableFault)
+      → k < len → p ≡ position axis table (u .to) k → (f ≡ faulted p Range) × (m .Fits a → ⊥) → a ≡ newEntry m u axis t k → Fit-update m u axis k t
       → Unfit-update m u table axis len t f
-  unfit u table axis t len k a f e kl ef (er, no-fit) ea inv = record {
+  unfit u table axis t len k a p f kl ep (ef, no-fit) ea inv = record {
     at = k;
     inside = kl;
-    is = ef ∙ ap (faultAt axis table (u .to) k) er;
+    is = ef ∙ ap (λ p. faulted p Range) ep;
     here = λ h. no-fit (subst (m .Fits) (sym ea) h);
     before = inv;
   }
@@ -50,17 +63,15 @@ module _ {E S : Type 0} (m : Model E S) where
   changed-none u axis old = record { line-is = λ k h. absurd (omega arith); others = λ p d h. refl }
 
   -- the entries numbered k are still as they were
-  still : (u : Update E) (axis : Axis) (k i : ℕ) (old t : List E) (d : E) → u .to < 32 → i < 32 → k < 32 → 1024 ≤ length t → length t ≡ length old
+  still : (u : Update E) (axis : Axis) (k i : ℕ) (old t : List E) → u .to < 32 → i < 32 → k < 32 → 1024 ≤ length t → length t ≡ length old
       → Changed m u axis k old t → meant m t (place axis i k) ≡ meant m old (place axis i k)
-  still u axis k i old t d tl il kl long el inv =
+  still u axis k i old t tl il kl long el inv =
       let b = place-below axis i k il kl in
-      sym (meant-at m t _ d (omega arith))
-      ∙ ap (m .mean) (inv .others (place axis i k) d (λ j h e. omega (arith, place-apart axis i (u .to) k j il tl kl (omega arith) e)))
-      ∙ meant-at m old _ d (omega arith)
+      meant-kept m old t (place axis i k) (omega arith) el (λ d. inv .others (place axis i k) d (λ j h e. omega (arith, place-apart axis i (u .to) k j il tl kl (omega arith) e)))
 
-  pub entry-still : (u : Update E) (axis : Axis) (k : ℕ) (old t : List E) (d : E) → u .to < 32 → u .from < 32 → k < 32 → 1024 ≤ length t → length t ≡ length old
+  pub entry-still : (u : Update E) (axis : Axis) (k : ℕ) (old t : List E) → u .to < 32 → u .from < 32 → k < 32 → 1024 ≤ length t → length t ≡ length old
       → Changed m u axis k old t → newEntry m u axis t k ≡ newEntry m u axis old k
-  entry-still u axis k old t d tl fl kl long el inv = rw (still u axis k (u .to) old t d tl tl kl long el inv, still u axis k (u .from) old t d tl fl kl long el inv)
+  entry-still u axis k old t tl fl kl long el inv = rw (still u axis k (u .to) old t tl tl kl long el inv, still u axis k (u .from) old t tl fl kl long el inv)
 
   pub changed-more : (u : Update E) (axis : Axis) (k at : ℕ) (old t : List E) (z : E) → u .to < 32 → k < 32 → 1024 ≤ length t
       → at ≡ place axis (u .to) k → m .mean z ≡ newEntry m u axis old k → Changed m u axis k old t → Changed m u axis (k + 1) old (set t at z)

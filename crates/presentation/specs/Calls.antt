@@ -6,11 +6,11 @@
 --   Bounded      the bounds that every state keeps
 --   Lent-add     what add writes: A, W, P, P*
 --   Lent-step    what step and run are lent: W, P, P*, Q, Q*
---   Opening      what open answers and leaves
+--   Opening      what open answers and leaves of Q and Q*
 --   Accepted     what an accepted relation does to the tables
 --   Accepting    a relation is accepted, or refused with the tables as found
 --   Adding       what add answers and leaves, from either state
---   corner       the corner after a line: it rises by line 8 alone
+--   after        the shape after a line: the corner rises by line 8 alone
 --   Made-on      the operation of a line was made on the tables, and the other tables are as they were
 --   Unfit-on     the first entry that the operation of a line would write and that does not fit
 --   Performs     a line was performed, or nothing was written
@@ -45,7 +45,7 @@ use Rattle.presentation.specs.declared.state.Run.the-variants as run
 use Rattle.presentation.specs.declared.table.Axis.{Axis}
 use Rattle.presentation.specs.declared.table.Axis.the-variants.{Row, Column}
 use Rattle.presentation.specs.Operations.{Three, three, Performed, FirstUnfit}
-use Rattle.presentation.specs.Places.{Written, Grown}
+use Rattle.presentation.specs.Places.{Written, Grown, Identity}
 use Rattle.presentation.specs.Products.{Put, UnfitSum}
 use Rattle.presentation.specs.Rests.{RestZero, Placed, operation}
 
@@ -100,24 +100,23 @@ pub record Long-step {E : Type 0} (t : Lent-step E) : Type 0 where
   pub right : 1024 ≤ length (t .right)
   pub right-inverse : 1024 ≤ length (t .right-inverse)
 
-abbrev pub corner : {E : Type 0} → Line E → ℕ → ℕ
-corner (SwapRows i) c = c
-corner (SwapColumns j) c = c
-corner (Normalise u v) c = c
-corner (ReduceRow i q) c = c
-corner (ReduceColumn j q) c = c
-corner (AddColumn j one) c = c
-corner Advance c = c + 1
-
--- open: Q and Q*, before and after
-abbrev pub Opening : {E : Type 0} → ℕ → List E → List E → List E → List E → Result Open CallFault → Type 0
-Opening n q q′ r r′ (Ok s) = (of-open s ≡ shape 0 n 0) × (1024 ≤ length q) × (1024 ≤ length q′)
-Opening n q q′ r r′ (Err Short) = (r ≡ q) × (r′ ≡ q′) × ((length q < 1024) ⊎ (length q′ < 1024))
-Opening n q q′ r r′ (Err Generators) = (r ≡ q) × (r′ ≡ q′) × (1024 ≤ length q) × (1024 ≤ length q′) × ((n ≡ 0) ⊎ (32 < n))
-Opening n q q′ r r′ (Err Full) = ⊥
-Opening n q q′ r r′ (Err (InTable f)) = ⊥
+abbrev pub after : {E : Type 0} → Line E → Shape → Shape
+after (SwapRows i) s = s
+after (SwapColumns j) s = s
+after (Normalise u v) s = s
+after (ReduceRow i q) s = s
+after (ReduceColumn j q) s = s
+after (AddColumn j one) s = s
+after Advance s = shape (s .m) (s .n) (s .c + 1)
 
 module _ {E S : Type 0} (m : Model E S) where
+  abbrev pub Opening : ℕ → List E → List E → List E → List E → Result Open CallFault → Type 0
+  Opening n q q′ r r′ (Ok s) = (of-open s ≡ shape 0 n 0) × (1024 ≤ length q) × (1024 ≤ length q′) × Identity m n q r × Identity m n q′ r′
+  Opening n q q′ r r′ (Err Short) = (r ≡ q) × (r′ ≡ q′) × ((length q < 1024) ⊎ (length q′ < 1024))
+  Opening n q q′ r r′ (Err Generators) = (r ≡ q) × (r′ ≡ q′) × (1024 ≤ length q) × (1024 ≤ length q′) × ((n ≡ 0) ⊎ (32 < n))
+  Opening n q q′ r r′ (Err Full) = ⊥
+  Opening n q q′ r r′ (Err (InTable f)) = ⊥
+
   pub record Accepted (k n : ℕ) (row right : List E) (old new : Lent-add E) : Type 0 where
     pub relations : Written Row k n row (old .relations) (new .relations)
     pub work : Put m n row right k (old .work) (new .work)
@@ -153,15 +152,15 @@ module _ {E S : Type 0} (m : Model E S) where
   Unfit-on (Some (Row, o)) s t f = FirstUnfit m o Row (s .n) (s .m) (by-rows t) f
   Unfit-on (Some (Column, o)) s t f = FirstUnfit m o Column (s .m) (s .n) (by-columns t) f
 
-  abbrev pub Performs : Line E → Shape → Lent-step E → Lent-step E → Result ℕ TableFault → Type 0
-  Performs line s t t′ (Ok c) = (c ≡ corner line (s .c)) × Made-on (operation line (s .c)) s t t′
+  abbrev pub Performs : Line E → Shape → Lent-step E → Lent-step E → Result Shape TableFault → Type 0
+  Performs line s t t′ (Ok s′) = (s′ ≡ after line s) × Made-on (operation line (s .c)) s t t′
   Performs line s t t′ (Err f) = (t′ ≡ t) × Unfit-on (operation line (s .c)) s t f
 
   pub record Next (s : Shape) (t : Lent-step E) (s′ : Shape) (t′ : Lent-step E) : Type 0 where
     pub line : Line E
     pub placed : Placed s line
     pub made : Made-on (operation line (s .c)) s t t′
-    pub shape-is : s′ ≡ shape (s .m) (s .n) (corner line (s .c))
+    pub shape-is : s′ ≡ after line s
 
   -- why a step is refused: a short table, or the first entry of a line's operation that does not fit
   abbrev pub Refused : Shape → Lent-step E → CallFault → Type 0

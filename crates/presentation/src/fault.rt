@@ -1,6 +1,6 @@
 // Why a call was refused: an element's fault whole inside a table's, and that inside the call's.
 ghost use mathlib.Core.Path.{_≡_};
-ghost use Rattle.presentation.specs.Faults.{callNumber};
+ghost use Rattle.presentation.specs.Faults.{Placed-at, callNumber};
 ghost use Rattle.presentation.specs.declared.fault.CallFault.the-variants.{InTable};
 use kinds::ElementFault;
 use kinds::ElementFaultDebug;
@@ -31,6 +31,31 @@ pub struct TableFault {
     pub row: usize,
     pub column: usize,
     pub fault: ElementFault,
+}
+
+// A place of a table.
+#[derive(Clone, Copy)]
+pub(crate) struct Place {
+    pub(crate) table: Table,
+    pub(crate) row: usize,
+    pub(crate) column: usize,
+}
+
+impl Place {
+    // An element's answer, with the place of its fault.
+    pub(crate) fn of<T>(self, answer: Result<T, ElementFault>) -> Result<T, TableFault>
+        ensures { λ r. ⌜ Placed-at self answer r ⌝ }
+    {
+        match answer {
+            Ok(x) => Ok(x),
+            Err(fault) => Err(TableFault {
+                table: self.table,
+                row: self.row,
+                column: self.column,
+                fault,
+            }),
+        }
+    }
 }
 
 // Why a call was refused.

@@ -12,7 +12,7 @@ use kinds::ElementFault;
 use kinds::Ring;
 
 // How the entries of a line come from those of another.
-#[derive(Clone, Copy)]
+#[derive(Drop)]
 pub enum Change<E> {
     // times a unit, kept with its inverse
     Scale { unit: E, inverse: E },
@@ -23,14 +23,14 @@ pub enum Change<E> {
 }
 
 // Line `to` is changed by line `from`; the two are one in scaling.
-#[derive(Clone, Copy)]
+#[derive(Drop)]
 pub struct Update<E> {
     pub change: Change<E>,
     pub from: usize,
     pub to: usize,
 }
 
-#[derive(Clone, Copy)]
+#[derive(Drop)]
 pub enum Operation<E> {
     Swap(usize, usize),
     Combine(Update<E>),
@@ -80,9 +80,8 @@ impl<E: Ring> Update<E> {
         for k in 0..len {
             let x = t[axis.place(self.to, k)];
             let y = t[axis.place(self.from, k)];
-            if let Err(fault) = self.entry(&x, &y) {
-                return Err(axis.fault(table, self.to, k, fault));
-            }
+            let place = axis.position(table, self.to, k);
+            place.of(self.entry(&x, &y))?;
         }
         Ok(())
     }
@@ -134,7 +133,7 @@ impl<E: Ring> Update<E> {
 impl<E: Ring> Operation<E> {
     // Makes the operation along an axis of the worktable and of a transform, and undoes it along the other axis of
     // the transform's inverse: all entries fit and are written, or none is.
-    pub fn perform(
+    pub(crate) fn perform(
         &self,
         axis: Axis,
         breadth: usize,

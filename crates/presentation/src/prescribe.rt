@@ -22,7 +22,7 @@ pub struct Shape {
 }
 
 // Lines 2 to 8 of the step, with their positions and multipliers.
-#[derive(Clone, Copy)]
+#[derive(Drop)]
 pub enum Line<E> {
     // 2: the pivot's row and row c are swapped
     SwapRows(usize),
@@ -121,7 +121,7 @@ impl Shape {
     }
 
     // The line that the step prescribes, or None where the rest is zero.
-    pub fn prescribe<E: Euclid>(self, w: &[E]) -> Option<Line<E>>
+    pub(crate) fn prescribe<E: Euclid>(self, w: &[E]) -> Option<Line<E>>
         requires { ⌜ self .m ≤ 32 ⌝ ∗ ⌜ self .n ≤ 32 ⌝ ∗ ⌜ 1024 ≤ length (now w) ⌝ }
         ensures { λ r. ⌜ BySome r (RestZero (E·Ring .model) self (now (w .entry))) (λ line. Placed self line) ⌝ }
     {
@@ -171,7 +171,7 @@ fn quotient<E: Euclid>(a: &E, b: &E) -> E
 
 impl<E: Euclid> Line<E> {
     // The elementary operation that the line stands for at corner c, and whether on rows or on columns.
-    pub fn operation(&self, c: usize) -> Option<(Axis, Operation<E>)>
+    pub(crate) fn operation(&self, c: usize) -> Option<(Axis, Operation<E>)>
         ensures { λ r. ⌜ r ≡ rests.operation (now (self .entry)) c ⌝ }
     {
         match *self {

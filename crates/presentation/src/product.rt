@@ -6,6 +6,7 @@ ghost use Rattle.presentation.specs.Operations.{NewEntry};
 ghost use Rattle.presentation.specs.Products.{dot, ZeroRow, Cleared, Putting};
 use crate::fault::Table;
 use crate::fault::TableFault;
+use crate::table::Axis;
 use kinds::ElementFault;
 use kinds::Ring;
 use kinds::Sums;
@@ -63,15 +64,9 @@ fn put_sums<E: Ring>(
 {
     let mut line = [t[0]; 32];
     'form: for j in 0..n {
-        match entry(row, t, n, j) {
-            Ok(x) => line[j] = x,
-            Err(fault) => return Err(TableFault {
-                table: Table::Work,
-                row: m,
-                column: j,
-                fault,
-            }),
-        }
+        line[j] = Axis::Row
+            .position(Table::Work, m, j)
+            .of(entry(row, t, n, j))?;
     }
     'write: for j in 0..n {
         work[32 * m + j] = line[j];
@@ -80,7 +75,7 @@ fn put_sums<E: Ring>(
 }
 
 // Puts a row times a table of n rows and columns into row m of the worktable. A row of zeros is not multiplied.
-pub fn put_product<E: Ring>(
+pub(crate) fn put_product<E: Ring>(
     row: &[E],
     t: &[E],
     n: usize,

@@ -4,9 +4,8 @@ ghost use Prim.Native.Nat.{ℕ, _*_, _+_, _<_, _≤_};
 ghost use lib.ListN.{length, getD};
 ghost use Rattle.presentation.specs.Places as places;
 ghost use Rattle.presentation.specs.Places.{Written, Swapped, Grown};
+use crate::fault::Place;
 use crate::fault::Table;
-use crate::fault::TableFault;
-use kinds::ElementFault;
 use kinds::Ring;
 
 // The elements of a table at least.
@@ -21,7 +20,7 @@ pub enum Axis {
 
 impl Axis {
     // The place of entry k of row or column i.
-    pub fn place(self, i: usize, k: usize) -> usize
+    pub(crate) fn place(self, i: usize, k: usize) -> usize
         requires { ⌜ i < 32 ⌝ ∗ ⌜ k < 32 ⌝ }
         ensures value { λ r. ⌜ r ≡ places.place self i k ⌝ }
         ensures bound { λ r. ⌜ r < 1024 ⌝ }
@@ -33,7 +32,7 @@ impl Axis {
     }
 
     // Rows for columns, and columns for rows.
-    pub fn other(self) -> Axis
+    pub(crate) fn other(self) -> Axis
         ensures { λ r. ⌜ r ≡ places.other self ⌝ }
     {
         match self {
@@ -43,7 +42,7 @@ impl Axis {
     }
 
     // The table that keeps the operations of the axis.
-    pub fn transform(self) -> Table
+    pub(crate) fn transform(self) -> Table
         ensures { λ r. ⌜ r ≡ places.transform self ⌝ }
     {
         match self {
@@ -53,7 +52,7 @@ impl Axis {
     }
 
     // The inverse of that table.
-    pub fn inverse(self) -> Table
+    pub(crate) fn inverse(self) -> Table
         ensures { λ r. ⌜ r ≡ places.inverse self ⌝ }
     {
         match self {
@@ -62,29 +61,27 @@ impl Axis {
         }
     }
 
-    // The fault of entry k of row or column i.
-    pub fn fault(self, table: Table, i: usize, k: usize, fault: ElementFault) -> TableFault
-        ensures { λ r. ⌜ r ≡ places.faultAt self table i k fault ⌝ }
+    // The table, row and column of entry k of row or column i.
+    pub(crate) fn position(self, table: Table, i: usize, k: usize) -> Place
+        ensures { λ r. ⌜ r ≡ places.position self table i k ⌝ }
     {
         match self {
-            Axis::Row => TableFault {
+            Axis::Row => Place {
                 table,
                 row: i,
                 column: k,
-                fault,
             },
-            Axis::Column => TableFault {
+            Axis::Column => Place {
                 table,
                 row: k,
                 column: i,
-                fault,
             },
         }
     }
 }
 
 // Puts a line into row or column i.
-pub fn write_line<E: Copy>(t: &mut [E], axis: Axis, i: usize, len: usize, line: &[E])
+pub(crate) fn write_line<E: Copy>(t: &mut [E], axis: Axis, i: usize, len: usize, line: &[E])
     requires { ⌜ 1024 ≤ length (now t) ⌝ ∗ ⌜ i < 32 ⌝ ∗ ⌜ len ≤ 32 ⌝ ∗ ⌜ len ≤ length (now line) ⌝ }
     ensures { λ _. ⌜ Written axis i len (now (line .entry)) (now (t .entry)) (now (t .exit)) ⌝ }
 {
@@ -94,7 +91,7 @@ pub fn write_line<E: Copy>(t: &mut [E], axis: Axis, i: usize, len: usize, line: 
 }
 
 // Swaps rows or columns a and b.
-pub fn swap_lines<E: Copy>(t: &mut [E], axis: Axis, a: usize, b: usize, len: usize)
+pub(crate) fn swap_lines<E: Copy>(t: &mut [E], axis: Axis, a: usize, b: usize, len: usize)
     requires { ⌜ 1024 ≤ length (now t) ⌝ ∗ ⌜ a < 32 ⌝ ∗ ⌜ b < 32 ⌝ ∗ ⌜ len ≤ 32 ⌝ }
     ensures { λ _. ⌜ Swapped axis a b len (now (t .entry)) (now (t .exit)) ⌝ }
 {
@@ -104,7 +101,7 @@ pub fn swap_lines<E: Copy>(t: &mut [E], axis: Axis, a: usize, b: usize, len: usi
 }
 
 // A table of size × size grows by a row and a column of the identity.
-pub fn grow<E: Ring>(t: &mut [E], size: usize)
+pub(crate) fn grow<E: Ring>(t: &mut [E], size: usize)
     requires { ⌜ 1024 ≤ length (now t) ⌝ ∗ ⌜ size < 32 ⌝ }
     ensures { λ _. ⌜ Grown model size (now (t .entry)) (now (t .exit)) ⌝ }
 {

@@ -14,7 +14,7 @@ use kinds::Ring;
 
 // Opens a presentation of n generators and no relations.
 pub fn open<E: Ring>(n: usize, right: &mut [E], right_inverse: &mut [E]) -> Result<Open, CallFault>
-    ensures { λ r. ⌜ Opening n (now (right .entry)) (now («right_inverse» .entry)) (now (right .exit)) (now («right_inverse» .exit)) r ⌝ }
+    ensures { λ r. ⌜ Opening model n (now (right .entry)) (now («right_inverse» .entry)) (now (right .exit)) (now («right_inverse» .exit)) r ⌝ }
 {
     if right.len() < TABLE || right_inverse.len() < TABLE {
         return Err(CallFault::Short);

@@ -53,7 +53,7 @@ impl Shape {
     }
 }
 
-// Performs a line on the tables, whole or not at all, and answers the corner afterwards.
+// Performs a line on the tables, whole or not at all, and answers the shape afterwards.
 fn perform<E: Euclid>(
     line: &Line<E>,
     shape: Shape,
@@ -62,7 +62,7 @@ fn perform<E: Euclid>(
     left_inverse: &mut [E],
     right: &mut [E],
     right_inverse: &mut [E],
-) -> Result<usize, TableFault>
+) -> Result<Shape, TableFault>
     requires sizes { ⌜ shape .m ≤ 32 ⌝ ∗ ⌜ shape .n ≤ 32 ⌝ }
     requires placed { ⌜ Placed shape (now line) ⌝ }
     requires long { ⌜ Long-step (lent-step (now work) (now left) (now «left_inverse») (now right) (now «right_inverse»)) ⌝ }
@@ -85,9 +85,12 @@ fn perform<E: Euclid>(
             right,
             right_inverse,
         )?,
-        None => return Ok(shape.c + 1),
+        None => return Ok(Shape {
+            c: shape.c + 1,
+            ..shape
+        }),
     }
-    Ok(shape.c)
+    Ok(shape)
 }
 
 // Whether one of the tables is under 1,024 elements.
@@ -122,11 +125,7 @@ impl Open {
             return Step::Done(shape.finished());
         };
         match perform(&line, shape, work, left, left_inverse, right, right_inverse) {
-            Ok(c) => Step::Stepped(Shape {
-                m: shape.m,
-                n: shape.n,
-                c,
-            }.open()),
+            Ok(next) => Step::Stepped(next.open()),
             Err(fault) => Step::Refused(self, CallFault::InTable(fault)),
         }
     }
@@ -153,7 +152,7 @@ impl Open {
                 return Run::Spent(shape.open(), count);
             }
             match perform(&line, shape, work, left, left_inverse, right, right_inverse) {
-                Ok(c) => shape.c = c,
+                Ok(next) => shape = next,
                 Err(fault) => return Run::Refused(shape.open(), count, CallFault::InTable(fault)),
             }
             count += 1;

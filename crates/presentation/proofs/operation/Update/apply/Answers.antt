@@ -14,7 +14,7 @@ loop-k-again g c =
     (c .in-Ok .ensures tt
     ∙ entry-is (g .E·Ring .model) (c .args .self .now) (c .args .axis) (c .loop-k .t) (c .loop-k .k) (c .place-at .result) (c .place .result) (c .index-t-at .result) (c .index-t-place .result)
     (omega arith) (omega arith) (omega arith) (omega arith) (c .place-at .ensures .value) (c .place .ensures .value) (c .index-t-at .is) (c .index-t-place .is)
-    ∙ entry-still (g .E·Ring .model) (c .args .self .now) (c .args .axis) (c .loop-k .k) (c .args .t .now) (c .loop-k .t) (c .in-Ok .z) (omega arith) (omega arith) (omega arith) (omega arith) (omega arith) (c .loop-k .inv))
+    ∙ entry-still (g .E·Ring .model) (c .args .self .now) (c .args .axis) (c .loop-k .k) (c .args .t .now) (c .loop-k .t) (omega arith) (omega arith) (omega arith) (omega arith) (omega arith) (c .loop-k .inv))
     (c .loop-k .inv)
 
 pub unreachable-requires : need.unreachable-requires
@@ -24,5 +24,5 @@ unreachable-requires g c κs =
     (sym
     (entry-is (g .E·Ring .model) (c .args .self .now) (c .args .axis) (c .loop-k .t) (c .loop-k .k) (c .place-at .result) (c .place .result) (c .index-t-at .result) (c .index-t-place .result)
     (omega arith) (omega arith) (omega arith) (omega arith) (c .place-at .ensures .value) (c .place .ensures .value) (c .index-t-at .is) (c .index-t-place .is)
-    ∙ entry-still (g .E·Ring .model) (c .args .self .now) (c .args .axis) (c .loop-k .k) (c .args .t .now) (c .loop-k .t) (c .index-t-at .result) (omega arith) (omega arith) (omega arith) (omega arith) (omega arith) (c .loop-k .inv)))
+    ∙ entry-still (g .E·Ring .model) (c .args .self .now) (c .args .axis) (c .loop-k .k) (c .args .t .now) (c .loop-k .t) (omega arith) (omega arith) (omega arith) (omega arith) (omega arith) (c .loop-k .inv)))
     (c .pre .fit (c .loop-k .k) (omega arith)))

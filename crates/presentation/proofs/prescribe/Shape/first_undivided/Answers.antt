@@ -1,10 +1,16 @@
-use mathlib.Core.Path.{ap, subst}
+use mathlib.Core.Path.{refl, subst}
 use Prim.Native.Nat.{_+_, _*_}
 use native.Mathlib.Omega.{arith}
 use Rattle.presentation.specs.Rests.{Divided-by, member}
 use Rattle.presentation.proofs.Tables.{meant-read}
-use Rattle.presentation.proofs.Scans.{within, seen-more, refuted}
+use Rattle.presentation.proofs.Scans.{within, seen-none, seen-row, seen-more, refuted}
 use Rattle.presentation.proofs.prescribe.Shape.first_undivided.Needs as need
+
+pub scan-holds : need.scan-holds
+scan-holds g c = (seen-none (c .args .self) _, refl)
+
+pub scan-again : need.scan-again
+scan-again g c = (seen-row (c .args .self) (c .scan .i) (c .loop-j .j) _ (omega arith) (c .loop-j .inv .0), c .loop-j .inv .1)
 
 pub loop-j-again : need.loop-j-again
 loop-j-again g c =

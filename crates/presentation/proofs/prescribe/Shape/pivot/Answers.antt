@@ -3,8 +3,14 @@ use Prim.Native.Nat.{_+_, _*_}
 use native.Mathlib.Omega.{arith}
 use Rattle.presentation.specs.Rests.{member}
 use Rattle.presentation.proofs.Tables.{meant-read}
-use Rattle.presentation.proofs.Scans.{within, better, left-alone, refuted}
+use Rattle.presentation.proofs.Scans.{within, none-so-far, row-so-far, better, left-alone, refuted}
 use Rattle.presentation.proofs.prescribe.Shape.pivot.Needs as need
+
+pub loop-i-holds : need.loop-i-holds
+loop-i-holds g c = none-so-far (g .E·Ring .model) (c .args .self) (c .args .w .now)
+
+pub loop-i-again : need.loop-i-again
+loop-i-again g c = row-so-far (g .E·Ring .model) (c .args .self) (c .args .w .now) (c .loop-i .i) (c .loop-j .j) (c .loop-j .size) (c .loop-j .least) (omega arith) (c .loop-j .inv)
 
 pub loop-j-again : need.loop-j-again
 loop-j-again g c =

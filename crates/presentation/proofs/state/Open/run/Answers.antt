@@ -1,7 +1,8 @@
-use mathlib.Core.Path.{refl, subst, _∙_}
+use mathlib.Core.Path.{sym, subst}
 use native.Mathlib.Omega.{arith}
+use Rattle.presentation.specs.Calls.{Bounded}
 use Rattle.presentation.specs.Calls.Reach.{start, more}
-use Rattle.presentation.proofs.Steps.{still-bounded, next-by}
+use Rattle.presentation.proofs.Steps.{still-bounded}
 use Rattle.presentation.proofs.state.Open.run.Needs as need
 
 pub returns-then-is-short : need.returns-then-is-short
@@ -14,7 +15,7 @@ pub loop-line-again : need.loop-line-again
 loop-line-again g c =
     let placed = c .in-Some .ensures tt in
     let made = c .in-Ok .ensures tt in (
-      still-bounded (c .loop-line .shape) (c .in-Some .line) (c .in-Ok .c) (made .0) placed (c .loop-line .inv .0),
+      subst Bounded (sym (made .0)) (still-bounded (c .loop-line .shape) (c .in-Some .line) placed (c .loop-line .inv .0)),
       omega arith,
-      more _ _ _ _ _ (c .loop-line .inv .2) (next-by (g .E·Ring .model) (c .loop-line .shape) _ _ (c .in-Some .line) (c .in-Ok .c) placed made),
+      more _ _ _ _ _ (c .loop-line .inv .2) (record { line = c .in-Some .line; placed = placed; made = made .1; shape-is = made .0 }),
     )
