@@ -3,6 +3,7 @@
 --   zeros        a table of zeros
 --   Within       a form has at most k bytes
 --   Reduced      what a reduction answers: a form of a length within the buffer, or nothing is written
+--   Answered     what is answered once the reader has answered
 --   Answering    a text that is no matrix is refused by the reader's number, and any other is reduced
 use mathlib.Core.Path.{_≡_}
 use mathlib.Core.List.{List}

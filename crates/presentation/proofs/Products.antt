@@ -68,6 +68,6 @@ module _ {E S : Type 0} (m : Model E S) where
   pub written-put : (n i k l : ℕ) (row t line old new : List E) (d : E) → i < 32 → n ≤ 32 → 1024 ≤ length new → n ≤ k → n ≡ l
       → Sums m n row t k line → Written Row i l line old new → Put m n row t i old new
   written-put n i k l row t line old new d il nl long nk e s w = record {
-    row-is = λ j h. sym (meant-at m new (32 * i + j) d (omega arith)) ∙ ap (m .mean) (w .line-is j d (omega arith)) ∙ s j d (omega arith);
+    row-is = λ j h. sym (meant-at m new (32 * i + j) d (omega arith)) ∙ ap (m .mean) (w .entries j d (omega arith)) ∙ s j d (omega arith);
     others = λ p d h. w .others p d (λ j g. h j (omega arith));
   }

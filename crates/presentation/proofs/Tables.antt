@@ -26,14 +26,14 @@ place-below Column i k p q = omega arith
 
 module _ {E : Type 0} where
   pub written-none : (axis : Axis) (i : ℕ) (line old : List E) → Written axis i 0 line old old
-  written-none axis i line old = record { line-is = λ k d h. absurd (omega arith); others = λ p d h. refl }
+  written-none axis i line old = record { entries = λ k d h. absurd (omega arith); others = λ p d h. refl }
 
   pub written-more : (axis : Axis) (i k at : ℕ) (line old t : List E) (x : E)
       → i < 32 → k < 32 → 1024 ≤ length t → k < length line → at ≡ place axis i k → x ≡ getD line k x
       → Written axis i k line old t → Written axis i (k + 1) line old (set t at x)
   written-more axis i k at line old t x il kl tl ll e rx inv = rw e record {
-    line-is = λ j d h. below-more (λ j. getD (set t (place axis i k) x) (place axis i j) d ≡ getD line j d) k
-        (λ j l. let ne : place axis i j ≢ place axis i k = λ q. omega (arith, place-apart axis i i j k il il (omega arith) kl q) in rw getD-set-other (inv .line-is j d l))
+    entries = λ j d h. below-more (λ j. getD (set t (place axis i k) x) (place axis i j) d ≡ getD line j d) k
+        (λ j l. let ne : place axis i j ≢ place axis i k = λ q. omega (arith, place-apart axis i i j k il il (omega arith) kl q) in rw getD-set-other (inv .entries j d l))
         (let lt : place axis i k < length t = omega (arith, place-below axis i k il kl) in rw getD-set-same (getD-read line k x ll rx d))
         j h;
     others = λ p d h. let ne : p ≢ place axis i k = h k (omega arith) in rw getD-set-other (inv .others p d (λ j l. h j (omega arith)));

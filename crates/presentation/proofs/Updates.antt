@@ -60,7 +60,7 @@ module _ {E S : Type 0} (m : Model E S) where
   }
 
   pub changed-none : (u : Update E) (axis : Axis) (old : List E) → Changed m u axis 0 old old
-  changed-none u axis old = record { line-is = λ k h. absurd (omega arith); others = λ p d h. refl }
+  changed-none u axis old = record { entries = λ k h. absurd (omega arith); others = λ p d h. refl }
 
   -- the entries numbered k are still as they were
   still : (u : Update E) (axis : Axis) (k i : ℕ) (old t : List E) → u .to < 32 → i < 32 → k < 32 → 1024 ≤ length t → length t ≡ length old
@@ -76,8 +76,8 @@ module _ {E S : Type 0} (m : Model E S) where
   pub changed-more : (u : Update E) (axis : Axis) (k at : ℕ) (old t : List E) (z : E) → u .to < 32 → k < 32 → 1024 ≤ length t
       → at ≡ place axis (u .to) k → m .mean z ≡ newEntry m u axis old k → Changed m u axis k old t → Changed m u axis (k + 1) old (set t at z)
   changed-more u axis k at old t z tl kl long ea ez inv = rw ea record {
-    line-is = below-more (λ j. meant m (set t (place axis (u .to) k) z) (place axis (u .to) j) ≡ newEntry m u axis old j) k
-        (λ j h. meant-set-other m t _ _ z (λ e. omega (arith, place-apart axis (u .to) (u .to) j k tl tl (omega arith) kl e)) ∙ inv .line-is j h)
+    entries = below-more (λ j. meant m (set t (place axis (u .to) k) z) (place axis (u .to) j) ≡ newEntry m u axis old j) k
+        (λ j h. meant-set-other m t _ _ z (λ e. omega (arith, place-apart axis (u .to) (u .to) j k tl tl (omega arith) kl e)) ∙ inv .entries j h)
         (let b = place-below axis (u .to) k tl kl in meant-set-same m t _ z (omega arith) ∙ ez);
     others = λ p d h. let ne : p ≢ place axis (u .to) k = h k (omega arith) in rw getD-set-other (inv .others p d (λ j l. h j (omega arith)));
   }

@@ -5,12 +5,18 @@
 --   of-finished  those of a finished one
 --   Bounded      the bounds that every state keeps
 --   Lent-add     what add writes: A, W, P, P*
+--   lent-add     four tables as such
 --   Lent-step    what step and run are lent: W, P, P*, Q, Q*
+--   lent-step    five tables as such
+--   Long-add     the tables of add have at least 1,024 elements, and the row at least n
+--   Long-step    the tables of step and run have at least 1,024 elements
 --   Opening      what open answers and leaves of Q and Q*
 --   Accepted     what an accepted relation does to the tables
 --   Accepting    a relation is accepted, or refused with the tables as found
 --   Adding       what add answers and leaves, from either state
 --   after        the shape after a line: the corner rises by line 8 alone
+--   by-rows      the tables that an operation on rows is performed on: W, P, P*
+--   by-columns   those for an operation on columns: W, Q, Q*
 --   Made-on      the operation of a line was made on the tables, and the other tables are as they were
 --   Unfit-on     the first entry that the operation of a line would write and that does not fit
 --   Performs     a line was performed, or nothing was written
@@ -18,6 +24,7 @@
 --   Refused      why a step is refused
 --   Stepping     what a step answers and leaves
 --   Reach        a number of steps, one after another
+--   Stopped      why a run is refused, and what it kept: the steps that it counted
 --   Running      what a run answers and leaves
 use mathlib.Core.Path.{_≡_}
 use mathlib.Core.List.{List}
@@ -84,7 +91,6 @@ pub record Lent-step (E : Type 0) : Type 0 where
 abbrev pub lent-step : {E : Type 0} → List E → List E → List E → List E → List E → Lent-step E
 lent-step w p p′ q q′ = record { work = w; left = p; left-inverse = p′; right = q; right-inverse = q′ }
 
--- each table has at least 1,024 elements
 pub record Long-add {E : Type 0} (n : ℕ) (x q : List E) (t : Lent-add E) : Type 0 where
   pub row : n ≤ length x
   pub relations : 1024 ≤ length (t .relations)
@@ -135,7 +141,6 @@ module _ {E S : Type 0} (m : Model E S) where
   Adding of s row right old new (Ok o) = (of-open o ≡ shape (of s .m + 1) (of s .n) 0) × Accepting (of s .m) (of s .n) row right old new (Ok tt)
   Adding of s row right old new (Err p) = (of (p .0) ≡ of s) × Accepting (of s .m) (of s .n) row right old new (Err (p .1))
 
-  -- the tables that an operation on rows, or on columns, is performed on
   abbrev pub by-rows : Lent-step E → Three E
   by-rows t = three (t .work) (t .left) (t .left-inverse)
 
@@ -179,7 +184,13 @@ module _ {E S : Type 0} (m : Model E S) where
     start : Reach s t 0 s t
     more : (k : ℕ) (u v : Shape) (x y : Lent-step E) → Reach s t k u x → Next u x v y → Reach s t (k + 1) v y
 
+  abbrev pub Stopped : ℕ → Shape → Lent-step E → ℕ → Shape → Lent-step E → CallFault → Type 0
+  Stopped budget s t k s′ t′ Short = (k ≡ 0) × (s′ ≡ s) × (t′ ≡ t) × (Long-step t → ⊥)
+  Stopped budget s t k s′ t′ (InTable f) = Long-step t × (k < budget) × Reach s t k s′ t′ × Refused s′ t′ (InTable f)
+  Stopped budget s t k s′ t′ Generators = ⊥
+  Stopped budget s t k s′ t′ Full = ⊥
+
   abbrev pub Running : ℕ → Shape → Lent-step E → Lent-step E → Run → Type 0
   Running budget s t t′ (run.Done f k) = Long-step t × (k ≤ budget) × Reach s t k (of-finished f) t′ × RestZero m (of-finished f) (t′ .work)
   Running budget s t t′ (run.Spent o k) = Long-step t × (k ≡ budget) × Reach s t k (of-open o) t′
-  Running budget s t t′ (run.Refused o k f) = (k ≤ budget) × Reach s t k (of-open o) t′ × Refused (of-open o) t′ f
+  Running budget s t t′ (run.Refused o k f) = Stopped budget s t k (of-open o) t′ f

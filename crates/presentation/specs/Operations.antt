@@ -1,17 +1,24 @@
 -- Elementary operations on rows or columns.
 --
---   undo         the change that undoes a change of a row by another, made on the columns of an inverse
---   across       the operation that undoes this one along the other axis of the inverse table
---   Within       the lines of an operation are among the first 32
---   changed      the new entry of a line, of its own x and the other line's y
---   NewEntry     an element that means the new entry, or Range: it does not fit
---   newEntry     entry k of the line that an update changes
---   Fit          each of the entries that an operation would write fits
---   Unfit        the fault of the first entry that does not
---   Fitting      all entries fit, or that fault
---   Changed      a line has its new entries, and all else is as it was
---   Made         an operation was made on a table
---   Performing   an operation was made on a worktable and a transform and undone on the inverse, or nothing was written
+--   undo           the change that undoes a change, made on the other axis of an inverse
+--   across-update  the update that undoes an update there: what changed by the other now changes the other
+--   across         the operation that undoes an operation there
+--   Within         the rows or columns of an operation are among the first 32
+--   changed        the new entry of a row or column, of its own x and the other one's y
+--   NewEntry       an element that means the new entry, or Range: it does not fit
+--   newEntry       entry k of the row or column that an update changes
+--   Fit-update     each entry that an update would write fits
+--   Unfit-update   the fault of the first that does not
+--   Fitting        all entries of an update fit, or that fault
+--   Changed        a row or column has its new entries, and all else is as it was
+--   Fit            each entry that an operation would write fits
+--   Unfit          the fault of the first that does not
+--   Made           an operation was made on a table
+--   Three          what an operation is performed on: a worktable, a transform and its inverse
+--   three          three tables as such
+--   Performed      an operation was made on worktable and transform and undone on the inverse
+--   FirstUnfit     the first entry that does not fit: in the worktable, then the transform, then the inverse
+--   Performing     an operation was performed, or nothing was written
 use mathlib.Core.Path.{_≡_}
 use mathlib.Core.List.{List}
 use mathlib.Core.Logic.{_⊎_}
@@ -78,7 +85,7 @@ module _ {E S : Type 0} (m : Model E S) where
   Fitting u table axis len t (Err f) = Unfit-update u table axis len t f
 
   pub record Changed (u : Update E) (axis : Axis) (len : ℕ) (old new : List E) : Type 0 where
-    pub line-is : (k : ℕ) → k < len → meant m new (place axis (u .to) k) ≡ newEntry u axis old k
+    pub entries : (k : ℕ) → k < len → meant m new (place axis (u .to) k) ≡ newEntry u axis old k
     pub others : (p : ℕ) (d : E) → ((k : ℕ) → k < len → p ≡ place axis (u .to) k → ⊥) → getD new p d ≡ getD old p d
 
   abbrev pub Fit : Operation E → Axis → ℕ → List E → Type 0
@@ -93,7 +100,6 @@ module _ {E S : Type 0} (m : Model E S) where
   Made (Swap a b) axis len old new = Swapped axis a b len old new
   Made (Combine u) axis len old new = Changed u axis len old new
 
--- what an operation is performed on
 pub record Three (E : Type 0) : Type 0 where
   pub work : List E
   pub transform : List E
@@ -108,7 +114,6 @@ module _ {E S : Type 0} (m : Model E S) (o : Operation E) (axis : Axis) (breadth
     pub transform : Made m o axis len (old .transform) (new .transform)
     pub inverse : Made m (across o) (other axis) len (old .inverse) (new .inverse)
 
-  -- the first entry that does not fit, by tables
   abbrev pub FirstUnfit : Three E → TableFault → Type 0
   FirstUnfit old f =
       Unfit m o Work axis breadth (old .work) f

@@ -53,9 +53,9 @@ meant m [] k = m .ring .zero
 meant m (x ∷ xs) zero = m .mean x
 meant m (x ∷ xs) (suc k) = meant m xs k
 
--- entries 0 to len - 1 of row or column i are those of `line`
-pub record Written {E : Type 0} (axis : Axis) (i len : ℕ) (line old new : List E) : Type 0 where
-  pub line-is : (k : ℕ) (d : E) → k < len → getD new (place axis i k) d ≡ getD line k d
+-- entries 0 to len - 1 of row or column i are those of xs
+pub record Written {E : Type 0} (axis : Axis) (i len : ℕ) (xs old new : List E) : Type 0 where
+  pub entries : (k : ℕ) (d : E) → k < len → getD new (place axis i k) d ≡ getD xs k d
   pub others : (p : ℕ) (d : E) → ((k : ℕ) → k < len → p ≡ place axis i k → ⊥) → getD new p d ≡ getD old p d
 
 -- entries 0 to len - 1 of rows or columns a and b

@@ -7,11 +7,11 @@ ghost use Rattle.presentation.specs.Operations.{across-update, changed, NewEnt
 use crate::fault::Table;
 use crate::fault::TableFault;
 use crate::table::Axis;
-use crate::table::swap_lines;
+use crate::table::swap_along;
 use kinds::ElementFault;
 use kinds::Ring;
 
-// How the entries of a line come from those of another.
+// How the entries of a row or column come from those of another.
 #[derive(Drop)]
 pub enum Change<E> {
     // times a unit, kept with its inverse
@@ -22,7 +22,7 @@ pub enum Change<E> {
     Subtract(E),
 }
 
-// Line `to` is changed by line `from`; the two are one in scaling.
+// Row or column `to` is changed by row or column `from`; the two are one in scaling.
 #[derive(Drop)]
 pub struct Update<E> {
     pub change: Change<E>,
@@ -30,6 +30,7 @@ pub struct Update<E> {
     pub to: usize,
 }
 
+// An elementary operation on rows or columns.
 #[derive(Drop)]
 pub enum Operation<E> {
     Swap(usize, usize),
@@ -37,7 +38,7 @@ pub enum Operation<E> {
 }
 
 impl<E: Ring> Update<E> {
-    // The new entry, of the one in line `to` and the one in line `from`.
+    // The new entry, of the one in `to` and the one in `from`.
     fn entry(&self, x: &E, y: &E) -> Result<E, ElementFault>
         ensures { λ r. ⌜ NewEntry model (changed model (now (self .entry) .change) (model .mean (now (x .entry))) (model .mean (now (y .entry)))) r ⌝ }
     {
@@ -72,7 +73,7 @@ impl<E: Ring> Update<E> {
         }
     }
 
-    // Looks whether the new entries of line `to` fit.
+    // Looks whether the new entries of row or column `to` fit.
     fn fits(&self, t: &[E], table: Table, axis: Axis, len: usize) -> Result<(), TableFault>
         requires { ⌜ 1024 ≤ length (now t) ⌝ ∗ ⌜ now self .from < 32 ⌝ ∗ ⌜ now self .to < 32 ⌝ ∗ ⌜ len ≤ 32 ⌝ }
         ensures { λ r. ⌜ Fitting model (now (self .entry)) table axis len (now (t .entry)) r ⌝ }
@@ -86,7 +87,7 @@ impl<E: Ring> Update<E> {
         Ok(())
     }
 
-    // Writes the new entries of line `to`, which fit.
+    // Writes the new entries of row or column `to`, which fit.
     fn apply(&self, t: &mut [E], axis: Axis, len: usize)
         requires sizes { ⌜ 1024 ≤ length (now t) ⌝ ∗ ⌜ now self .from < 32 ⌝ ∗ ⌜ now self .to < 32 ⌝ ∗ ⌜ len ≤ 32 ⌝ }
         requires fit { ⌜ Fit-update model (now self) axis len (now t) ⌝ }
@@ -149,9 +150,9 @@ impl<E: Ring> Operation<E> {
     {
         match self {
             Operation::Swap(a, b) => {
-                swap_lines(work, axis, *a, *b, breadth);
-                swap_lines(transform, axis, *a, *b, len);
-                swap_lines(inverse, axis.other(), *a, *b, len);
+                swap_along(work, axis, *a, *b, breadth);
+                swap_along(transform, axis, *a, *b, len);
+                swap_along(inverse, axis.other(), *a, *b, len);
                 Ok(())
             }
             Operation::Combine(update) => update.perform(

@@ -80,8 +80,8 @@ impl Axis {
     }
 }
 
-// Puts a line into row or column i.
-pub(crate) fn write_line<E: Copy>(t: &mut [E], axis: Axis, i: usize, len: usize, line: &[E])
+// Puts entries into row or column i.
+pub(crate) fn write_along<E: Copy>(t: &mut [E], axis: Axis, i: usize, len: usize, line: &[E])
     requires { ⌜ 1024 ≤ length (now t) ⌝ ∗ ⌜ i < 32 ⌝ ∗ ⌜ len ≤ 32 ⌝ ∗ ⌜ len ≤ length (now line) ⌝ }
     ensures { λ _. ⌜ Written axis i len (now (line .entry)) (now (t .entry)) (now (t .exit)) ⌝ }
 {
@@ -91,7 +91,7 @@ pub(crate) fn write_line<E: Copy>(t: &mut [E], axis: Axis, i: usize, len: usize,
 }
 
 // Swaps rows or columns a and b.
-pub(crate) fn swap_lines<E: Copy>(t: &mut [E], axis: Axis, a: usize, b: usize, len: usize)
+pub(crate) fn swap_along<E: Copy>(t: &mut [E], axis: Axis, a: usize, b: usize, len: usize)
     requires { ⌜ 1024 ≤ length (now t) ⌝ ∗ ⌜ a < 32 ⌝ ∗ ⌜ b < 32 ⌝ ∗ ⌜ len ≤ 32 ⌝ }
     ensures { λ _. ⌜ Swapped axis a b len (now (t .entry)) (now (t .exit)) ⌝ }
 {

@@ -9,7 +9,7 @@ use crate::state::Open;
 use crate::table::Axis;
 use crate::table::TABLE;
 use crate::table::grow;
-use crate::table::write_line;
+use crate::table::write_along;
 use kinds::Ring;
 
 // Opens a presentation of n generators and no relations.
@@ -56,7 +56,7 @@ fn accept<E: Ring>(
         return Err(CallFault::Full);
     }
     put_product(row, right, n, m, work)?;
-    write_line(relations, Axis::Row, m, n, row);
+    write_along(relations, Axis::Row, m, n, row);
     grow(left, m);
     grow(left_inverse, m);
     Ok(())

@@ -1,6 +1,6 @@
 use native.Mathlib.Omega.{arith}
 use Rattle.presentation.proofs.Tables.{swapped-none, swapped-more}
-use Rattle.presentation.proofs.table.swap_lines.Needs as need
+use Rattle.presentation.proofs.table.swap_along.Needs as need
 
 pub loop-k-holds : need.loop-k-holds
 loop-k-holds g c = swapped-none _ _ _ _

@@ -1,6 +1,6 @@
 use native.Mathlib.Omega.{arith}
 use Rattle.presentation.proofs.Tables.{written-none, written-more}
-use Rattle.presentation.proofs.table.write_line.Needs as need
+use Rattle.presentation.proofs.table.write_along.Needs as need
 
 pub loop-k-holds : need.loop-k-holds
 loop-k-holds g c = written-none _ _ _ _
