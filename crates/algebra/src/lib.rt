@@ -1,1 +1,2 @@
 // Commutative rings: definitions in specs/, lemmas in proofs/. There is no code.
+#![tactic(auto)]

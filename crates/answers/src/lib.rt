@@ -1,4 +1,6 @@
 // Worked examples of the other crates, as tests.
+#![tactic(auto)]
+
 #[cfg(test)]
 mod files;
 #[cfg(test)]

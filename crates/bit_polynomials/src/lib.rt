@@ -1,4 +1,6 @@
 // Polynomials over the field of two of degree at most 31.
+#![tactic(auto)]
+
 ghost use Rattle.std.specs.Prelude.{◌≡◌};
 ghost use Rattle.kinds.specs.Outcomes.{Becomes};
 ghost use Rattle.bit_polynomials.specs.Binary.{binary};

@@ -1,4 +1,6 @@
 // From the text of a relation matrix to the text of its Smith normal form.
+#![tactic(auto)]
+
 ghost use Rattle.std.specs.Prelude.{◌≡◌, ◌≤◌, length, IfOk, vec_len};
 ghost use Rattle.presentation.specs.Calls.{of_open, shape};
 ghost use Rattle.calculator.specs.Answers.{zeros, Within, Reduced, Answering};

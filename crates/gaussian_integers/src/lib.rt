@@ -1,4 +1,6 @@
 // The Gaussian integers with parts of magnitude at most 268,435,455.
+#![tactic(auto)]
+
 ghost use Rattle.std.specs.Prelude.{◌≡◌};
 ghost use Rattle.kinds.specs.Outcomes.{Becomes};
 ghost use Rattle.gaussian_integers.specs.Gaussian.{gaussian, Within};

@@ -1,4 +1,6 @@
 // The integers of magnitude at most 536,870,911.
+#![tactic(auto)]
+
 ghost use Rattle.std.specs.Prelude.{◌≡◌, ◌≤◌, ℤ, ◌*ℤ◌, unsigned_abs};
 ghost use Rattle.kinds.specs.Outcomes.{Becomes};
 ghost use Rattle.integers.specs.Meaning.{integers, meaning};

@@ -1,4 +1,6 @@
 // Each kind at its corners, and relations reduced over each, as tests.
+#![tactic(auto)]
+
 #[cfg(test)]
 mod bits;
 #[cfg(test)]

@@ -1,4 +1,6 @@
 // The interface of a number system: a ring with sums of products, and division with a remainder.
+#![tactic(auto)]
+
 ghost use Rattle.std.specs.Prelude.{◌≡◌, Decides};
 ghost use Rattle.algebra.specs.Ring.{RingLaws, Domain, sub};
 ghost use Rattle.kinds.specs.Laws.{RangeLaws, SizeLaws, DivisionLaws, NormalLaws};
@@ -106,7 +108,7 @@ pub trait Sums<E: Ring<Sum = Self>>: Copy {
 pub trait Euclid: Ring {
     // The Euclidean size: 0 exactly for zero.
     fn size(&self) -> u64
-        ensures { result ≡ model.size (model.mean self.now) };
+        ensures { result ≡ Self.model.size (Self.model.mean self.now) };
 
     // Sets quotient and remainder of the element by b.
     fn divide(
@@ -115,10 +117,10 @@ pub trait Euclid: Ring {
         quotient: &mut Self,
         remainder: &mut Self,
     ) -> Result<(), ElementFault>
-        ensures { Divided model (model.mean self.now) (model.mean b.now) quotient.old remainder.old quotient.new remainder.new result };
+        ensures { Divided Self.model (Self.model.mean self.now) (Self.model.mean b.now) quotient.old remainder.old quotient.new remainder.new result };
 
     // Sets the unit that brings the element to its normal form, and the inverse of that unit.
     fn normalise(&self, unit: &mut Self, inverse: &mut Self)
-        ensures unit { model.mean unit.new ≡ model.unit (model.mean self.now) }
-        ensures inverse { model.mean inverse.new ≡ model.inverse (model.mean self.now) };
+        ensures unit { Self.model.mean unit.new ≡ Self.model.unit (Self.model.mean self.now) }
+        ensures inverse { Self.model.mean inverse.new ≡ Self.model.inverse (Self.model.mean self.now) };
 }

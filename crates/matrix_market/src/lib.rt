@@ -1,4 +1,6 @@
 // Matrix Market files in array form: a reader into a lent table of integers, and a writer out of one.
+#![tactic(auto)]
+
 ghost use Rattle.std.specs.Prelude.{◌≡◌};
 ghost use Rattle.matrix_market.specs.Numbered.{read_number, write_number};
 

@@ -1,4 +1,6 @@
 // Presentations by generators and relations, and their reduction to Smith normal form.
+#![tactic(auto)]
+
 mod fault;
 mod operation;
 mod prescribe;

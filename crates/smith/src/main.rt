@@ -1,4 +1,6 @@
 // Reads a relation matrix from standard input and writes its Smith normal form, or why there is none.
+#![tactic(auto)]
+
 ghost use Rattle.std.specs.Prelude.{◌≤◌, length, IfOk};
 ghost use Rattle.calculator.specs.Answers.{Within};
 
