@@ -36,7 +36,7 @@ pub enum Operation<E> {
 impl<E: Ring> Update<E> {
     // The new entry, of the one in `to` and the one in `from`.
     fn entry(&self, x: &E, y: &E) -> Result<E, ElementFault>
-        ensures { NewEntry model (changed model self.now.change (model.mean x.now) (model.mean y.now)) result }
+        ensures { NewEntry E.model (changed E.model self.now.change (E.model.mean x.now) (E.model.mean y.now)) result }
     {
         let mut z = *x;
         match self.change {
@@ -72,7 +72,7 @@ impl<E: Ring> Update<E> {
     // Looks whether the new entries of row or column `to` fit.
     fn fits(&self, t: &[E], table: Table, axis: Axis, len: usize) -> Result<(), TableFault>
         requires { (1024 ≤ length t.now) × ((self.now.from < 32) × ((self.now.to < 32) × (len ≤ 32))) }
-        ensures { Fitting model self.now table axis len t.now result }
+        ensures { Fitting E.model self.now table axis len t.now result }
     {
         for k in 0..len {
             let x = t[axis.place(self.to, k)];
@@ -86,8 +86,8 @@ impl<E: Ring> Update<E> {
     // Writes the new entries of row or column `to`, which fit.
     fn apply(&self, t: &mut [E], axis: Axis, len: usize)
         requires sizes { (1024 ≤ length t.old) × ((self.now.from < 32) × ((self.now.to < 32) × (len ≤ 32))) }
-        requires fit { FitUpdate model self.now axis len t.old }
-        ensures { Changed model self.now axis len t.old t.new }
+        requires fit { FitUpdate E.model self.now axis len t.old }
+        ensures { Changed E.model self.now axis len t.old t.new }
     {
         for k in 0..len {
             let at = axis.place(self.to, k);
@@ -114,7 +114,7 @@ impl<E: Ring> Update<E> {
         requires long { (1024 ≤ length work.old) × ((1024 ≤ length transform.old) × (1024 ≤ length inverse.old)) }
         requires sizes { (breadth ≤ 32) × (len ≤ 32) }
         requires within { (self.now.from < 32) × (self.now.to < 32) }
-        ensures { Performing model (Combine self.now) axis breadth len (three work.old transform.old inverse.old) (three work.new transform.new inverse.new) result }
+        ensures { Performing E.model (Combine self.now) axis breadth len (three work.old transform.old inverse.old) (three work.new transform.new inverse.new) result }
     {
         let back = self.across();
         self.fits(work, Table::Work, axis, breadth)?;
@@ -142,7 +142,7 @@ impl<E: Ring> Operation<E> {
         requires long { (1024 ≤ length work.old) × ((1024 ≤ length transform.old) × (1024 ≤ length inverse.old)) }
         requires sizes { (breadth ≤ 32) × (len ≤ 32) }
         requires within { Within self.now }
-        ensures { Performing model self.now axis breadth len (three work.old transform.old inverse.old) (three work.new transform.new inverse.new) result }
+        ensures { Performing E.model self.now axis breadth len (three work.old transform.old inverse.old) (three work.new transform.new inverse.new) result }
     {
         match self {
             Operation::Swap(a, b) => {

@@ -10,7 +10,7 @@ use kinds::{ElementFault, Ring, Sums};
 // Whether the first n elements of a row are zero.
 fn is_zero_row<E: Ring>(row: &[E], n: usize) -> bool
     requires { n ≤ length row.now }
-    ensures { Decides result (ZeroRow model n row.now) }
+    ensures { Decides result (ZeroRow E.model n row.now) }
 {
     for k in 0..n {
         if !row[k].is_zero() {
@@ -23,7 +23,7 @@ fn is_zero_row<E: Ring>(row: &[E], n: usize) -> bool
 // Entry j of a row times a table of n rows.
 fn entry<E: Ring>(row: &[E], t: &[E], n: usize, j: usize) -> Result<E, ElementFault>
     requires { (n ≤ 32) × ((j < 32) × ((n ≤ length row.now) × (1024 ≤ length t.now))) }
-    ensures { NewEntry model (dot model n row.now t.now j) result }
+    ensures { NewEntry E.model (dot E.model n row.now t.now j) result }
 {
     let mut sum = E::Sum::new();
     for k in 0..n {
@@ -37,7 +37,7 @@ fn entry<E: Ring>(row: &[E], t: &[E], n: usize, j: usize) -> Result<E, ElementFa
 // Puts zeros into row m of the worktable.
 fn put_zeros<E: Ring>(n: usize, m: usize, work: &mut [E])
     requires { (n ≤ 32) × ((m < 32) × (1024 ≤ length work.old)) }
-    ensures { Cleared model n m work.old work.new }
+    ensures { Cleared E.model n m work.old work.new }
 {
     let mut zero = work[32 * m];
     zero.set_zero();
@@ -56,7 +56,7 @@ fn put_sums<E: Ring>(
 ) -> Result<(), TableFault>
     requires sizes { (n ≤ 32) × (m < 32) }
     requires long { (n ≤ length row.now) × ((1024 ≤ length t.now) × (1024 ≤ length work.old)) }
-    ensures { Putting model n row.now t.now m work.old work.new result }
+    ensures { Putting E.model n row.now t.now m work.old work.new result }
 {
     let mut line = [t[0]; 32];
     'form: for j in 0..n {
@@ -80,7 +80,7 @@ pub(crate) fn put_product<E: Ring>(
 ) -> Result<(), TableFault>
     requires sizes { (n ≤ 32) × (m < 32) }
     requires long { (n ≤ length row.now) × ((1024 ≤ length t.now) × (1024 ≤ length work.old)) }
-    ensures { Putting model n row.now t.now m work.old work.new result }
+    ensures { Putting E.model n row.now t.now m work.old work.new result }
 {
     if is_zero_row(row, n) {
         put_zeros(n, m, work);

@@ -101,7 +101,7 @@ pub(crate) fn swap_along<E: Copy>(t: &mut [E], axis: Axis, a: usize, b: usize, l
 // A table of size × size grows by a row and a column of the identity.
 pub(crate) fn grow<E: Ring>(t: &mut [E], size: usize)
     requires { (1024 ≤ length t.old) × (size < 32) }
-    ensures { Grown model size t.old t.new }
+    ensures { Grown E.model size t.old t.new }
 {
     let mut zero = t[33 * size];
     zero.set_zero();

@@ -10,7 +10,7 @@ use kinds::Ring;
 
 // Opens a presentation of n generators and no relations.
 pub fn open<E: Ring>(n: usize, right: &mut [E], right_inverse: &mut [E]) -> Result<Open, CallFault>
-    ensures { Opening model n right.old right_inverse.old right.new right_inverse.new result }
+    ensures { Opening E.model n right.old right_inverse.old right.new right_inverse.new result }
 {
     if right.len() < TABLE || right_inverse.len() < TABLE {
         return Err(CallFault::Short);
@@ -37,7 +37,7 @@ fn accept<E: Ring>(
     right: &[E],
 ) -> Result<(), CallFault>
     requires { (m ≤ 32) × (n ≤ 32) }
-    ensures { Accepting model m n row.now right.now (lent_add relations.old work.old left.old left_inverse.old) (lent_add relations.new work.new left.new left_inverse.new) result }
+    ensures { Accepting E.model m n row.now right.now (lent_add relations.old work.old left.old left_inverse.old) (lent_add relations.new work.new left.new left_inverse.new) result }
 {
     if relations.len() < TABLE
         || work.len() < TABLE
@@ -69,7 +69,7 @@ impl Open {
         left_inverse: &mut [E],
         right: &[E],
     ) -> Result<Open, (Open, CallFault)>
-        ensures { Adding model of_open self row.now right.now (lent_add relations.old work.old left.old left_inverse.old) (lent_add relations.new work.new left.new left_inverse.new) result }
+        ensures { Adding E.model of_open self row.now right.now (lent_add relations.old work.old left.old left_inverse.old) (lent_add relations.new work.new left.new left_inverse.new) result }
     {
         match accept(
             self.m,
@@ -101,7 +101,7 @@ impl Finished {
         left_inverse: &mut [E],
         right: &[E],
     ) -> Result<Open, (Finished, CallFault)>
-        ensures { Adding model of_finished self row.now right.now (lent_add relations.old work.old left.old left_inverse.old) (lent_add relations.new work.new left.new left_inverse.new) result }
+        ensures { Adding E.model of_finished self row.now right.now (lent_add relations.old work.old left.old left_inverse.old) (lent_add relations.new work.new left.new left_inverse.new) result }
     {
         match accept(
             self.m,

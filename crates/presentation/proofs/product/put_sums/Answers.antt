@@ -9,19 +9,19 @@ use Rattle.presentation.proofs.product.put_sums.Goals as goal
 pub form-preserved : goal.form-preserved
 form-preserved g c = (
   length-set _ _ _ ∙ c.form.invariant.0,
-  sums_more g.E.Ring.model c.args.n c.form.j c.args.row.now c.args.t.now c.form.line c.in-ok-line.field-0 (omega arith)
-      (subst (NewAt g.E.Ring.model c.position.result _) c.in-ok-line.was (new_at g.E.Ring.model c.position.result _ c.entry.result c.of.result c.entry.ensures c.of.ensures))
+  sums_more g.E.Ring.model c.args.n c.form.j c.args.row.now c.args.t.now c.form.line c.in_ok-line.field-0 (omega arith)
+      (subst (NewAt g.E.Ring.model c.position.result _) c.in_ok-line.was (new_at g.E.Ring.model c.position.result _ c.entry.result c.of.result c.entry.ensures c.of.ensures))
       c.form.invariant.1,
 )
 
-pub returns-in-err-line : goal.returns-in-err-line
-returns-in-err-line g c =
-    let p = err_from_is_err_and c.from-residual.result c.from-residual.ensures.1 in
+pub returns-in_err-line : goal.returns-in_err-line
+returns-in_err-line g c =
+    let p = err_from_is_err_and c.from_residual.result c.from_residual.ensures.1 in
     rw (p.1, p.2) (
       refl,
-      unfit_sum g.E.Ring.model g.met.E.Ring.range c.args.n c.args.m c.form.j c.args.row.now c.args.t.now c.form.line c.index-t-0.result c.position.result c.in-err-line.field-0.0
+      unfit_sum g.E.Ring.model g.met.E.Ring.range c.args.n c.args.m c.form.j c.args.row.now c.args.t.now c.form.line c.index-t-0.result c.position.result c.in_err-line.field-0.0
           (omega arith) c.position.ensures
-          (subst (NewAt g.E.Ring.model c.position.result _) c.in-err-line.was (new_at g.E.Ring.model c.position.result _ c.entry.result c.of.result c.entry.ensures c.of.ensures))
+          (subst (NewAt g.E.Ring.model c.position.result _) c.in_err-line.was (new_at g.E.Ring.model c.position.result _ c.entry.result c.of.result c.entry.ensures c.of.ensures))
           c.form.invariant.1,
     )
 

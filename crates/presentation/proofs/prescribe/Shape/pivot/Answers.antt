@@ -18,11 +18,11 @@ loop-j-preserved g c =
     let i = c.loop-i.i in
     let j = c.loop-j.j in
     let size_is : c.size-here.result ≡ m.size (member m w i j) = c.size-here.ensures ∙ ap m.size (meant_read m w (32 * i + j) c.index-w-i.result (omega arith) c.index-w-i.is) in
-    elim c.if-is-better.branch [
-      | goal.then-is-better v ↦
+    elim c.if-is_better.branch [
+      | goal.then-is_better v ↦
           rw v.least-is
-          (better m s w g.met.E.Ring.size i j c.size-here.result c.loop-j.size (within s i j (omega arith) (omega arith) (omega arith) (omega arith)) size_is (c.is-better.ensures.0 v.if-is-better.true) i (j + 1))
-      | goal.else-is-better v ↦
-          left_alone m s w g.met.E.Ring.size i j c.size-here.result c.loop-j.size c.if-is-better.size c.loop-j.least c.if-is-better.least v.size-is v.least-is
-          size_is (refuted c.is-better.result c.is-better.ensures v.if-is-better.false) c.loop-j.invariant
+          (better m s w g.met.E.Ring.size i j c.size-here.result c.loop-j.size (within s i j (omega arith) (omega arith) (omega arith) (omega arith)) size_is (c.is_better.ensures.0 v.if-is_better.true) i (j + 1))
+      | goal.else-is_better v ↦
+          left_alone m s w g.met.E.Ring.size i j c.size-here.result c.loop-j.size c.if-is_better.size c.loop-j.least c.if-is_better.least v.size-is v.least-is
+          size_is (refuted c.is_better.result c.is_better.ensures v.if-is_better.false) c.loop-j.invariant
     ]

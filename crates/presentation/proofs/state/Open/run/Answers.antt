@@ -4,8 +4,8 @@ use Rattle.presentation.specs.Calls.Reach.{start, more}
 use Rattle.presentation.proofs.Steps.{still_bounded, stopped}
 use Rattle.presentation.proofs.state.Open.run.Goals as goal
 
-pub returns-then-is-short : goal.returns-then-is-short
-returns-then-is-short g c = (refl, refl, refl, c.is-short.ensures.short c.if-is-short.true)
+pub returns-then-is_short : goal.returns-then-is_short
+returns-then-is_short g c = (refl, refl, refl, c.is_short.ensures.short c.if-is_short.true)
 
 pub loop-line-init : goal.loop-line-init
 loop-line-init g c = (c.shape-shape.ensures.bounds, omega arith, start)
@@ -21,7 +21,7 @@ loop-line-preserved g c =
 
 pub returns-in-Err : goal.returns-in-Err
 returns-in-Err g c =
-    let long = c.is-short.ensures.long c.if-is-short.false in
+    let long = c.is_short.ensures.long c.if-is_short.false in
     stopped g.E.Ring.model c.args.budget c.loop-line.count (of_open c.args.self) c.shape-shape.result c.loop-line.shape (of_open c.open-in-Err.result) _ _ _ c.in-Some.line c.in-Err.fault
     c.shape-shape.ensures.value c.open-in-Err.ensures (omega arith) long
     (record {
