@@ -9,10 +9,10 @@ last None fs f g false e q = cc
 last (Some p) fs f g true e q = cc
 last (Some p) fs f g false e q = ap (λ x. named x []) e
 
-pub returns-in-default-after-word-3 : goal.returns-in-default-after-word-3
-returns-in-default-after-word-3 c = sym (c.in-Some.ensures _ ∙ c.in-Some-after-word.ensures _ ∙ c.in-Some-after-word-2.ensures _ ∙ c.in-default-after-word-3.ensures [])
+pub returns-in_default-after_word-3 : goal.returns-in_default-after_word-3
+returns-in_default-after_word-3 c = sym (c.in-Some.ensures _ ∙ c.in-Some-after_word.ensures _ ∙ c.in-Some-after_word-2.ensures _ ∙ c.in_default-after_word-3.ensures [])
 
 pub returns : goal.returns
 returns c =
-    sym (c.in-Some.ensures _ ∙ c.in-Some-after-word.ensures _ ∙ c.in-Some-after-word-2.ensures _ ∙ c.in-Some-after-word-3.ensures []
-    ∙ last c.next-field.result _ _ _ c.is-none.result c.next-field.ensures c.is-none.ensures)
+    sym (c.in-Some.ensures _ ∙ c.in-Some-after_word.ensures _ ∙ c.in-Some-after_word-2.ensures _ ∙ c.in-Some-after_word-3.ensures []
+    ∙ last c.next_field.result _ _ _ c.is_none.result c.next_field.ensures c.is_none.ensures)

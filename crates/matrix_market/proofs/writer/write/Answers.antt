@@ -7,7 +7,7 @@ returns c =
     record {
       text = (
         accepted c.args.m c.args.n c.args.table.now c.args.out.now (omega arith) (omega arith) (omega arith) (omega arith) (omega arith),
-        appends_then _ _ _ _ _ _ _ _ c.put-opening-end.ensures.appends c.put-entries.ensures.appends,
+        appends_then _ _ _ _ _ _ _ _ c.put_opening-end.ensures.appends c.put_entries.ensures.appends,
       );
-      bound = omega (arith, c.put-opening-end.ensures.bound, c.put-entries.ensures.bound);
+      bound = omega (arith, c.put_opening-end.ensures.bound, c.put_entries.ensures.bound);
     }
