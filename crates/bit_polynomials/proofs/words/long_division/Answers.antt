@@ -6,15 +6,15 @@ use Rattle.bit_polynomials.proofs.words.long_division.Goals as goal
 pub loop-power-init : goal.loop-power-init
 loop-power-init c = division_start (binary c.args.a) (binary c.args.b)
 
-pub overflow-shl-quotient : goal.overflow-shl-quotient
-overflow-shl-quotient c =
+pub overflow_shl-quotient : goal.overflow_shl-quotient
+overflow_shl-quotient c =
     let l = c.loop-power in
     let n = c.length-size in
     let m = c.length-in-loop-power in
     shift_fits l.quotient l.left c.args.b n.result m.result n.ensures.value m.ensures.value c.requires.divisor (omega arith) m.ensures.bound
 
-pub overflow-shl-left : goal.overflow-shl-left
-overflow-shl-left = overflow-shl-quotient
+pub overflow_shl-left : goal.overflow_shl-left
+overflow_shl-left = overflow_shl-quotient
 
 pub loop-power-smaller : goal.loop-power-smaller
 loop-power-smaller c =
