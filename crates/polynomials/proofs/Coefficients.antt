@@ -6,7 +6,7 @@ use native.Mathlib.Decide.{dec_le}
 use native.Mathlib.Omega.{arith}
 use Rattle.algebra.specs.Field.{Field}
 use Rattle.algebra.specs.Sequence.{Ends, before, convolution}
-use Rattle.polynomials.specs.Polynomial.{Sized, Polynomial, size, null, add_power, drop_power, plus, minus, times}
+use Rattle.polynomials.specs.Polynomial.{Sized, Polynomial, null, add_power, drop_power, plus, minus, times}
 
 module _ {F : Type 0} (K : Field F) where
   open K use {ring as R}
