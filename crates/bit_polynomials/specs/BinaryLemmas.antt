@@ -1,4 +1,16 @@
--- Numbers as polynomials over the field of two: their digits, sums, shifts and sizes.
+-- Numbers as polynomials over the field of two: their digits, sums, shifts and sizes. Proofs that Laws needs.
+--
+--   not_false     what is not false is true
+--   binary_zero   the number 0 is the polynomial zero
+--   binary_one    the number 1 is the polynomial one
+--   binary_xor    exclusive or adds polynomials
+--   minus_itself  each polynomial is its own opposite
+--   binary_shift  a shift multiplies by a power
+--   binary_once   different numbers are different polynomials
+--   binary_held   a polynomial of at most m coefficients is that of a number below 2^m
+--   small_size    a number below 2^m has at most m coefficients
+--   size_small    and only such a number has
+--   size_digits   a number from 2^j on and below the next power has j + 1 coefficients
 use Rattle.std.specs.Prelude.{◌≡◌, ℕ, zero, suc, ◌+◌, ◌*◌, ◌/◌, ◌%◌, ◌^◌, ◌<◌, ◌≤◌, Bool, true, false, cond, ◌⊎◌, ◌==◌, ◌≢◌, bit_xor, nat_eq, refl}
 use Rattle.std.proofs.Common.{sym, ap, ap₂, subst, ◌∙◌, inl, inr, pow-suc, arith, pow_mono, shr-shr}
 use Rattle.std.proofs.Math.Nat as nat

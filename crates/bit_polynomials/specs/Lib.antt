@@ -1,5 +1,6 @@
 pub mod Two
 pub mod Binary
 pub mod Meaning
-pub mod MeaningLemmas
 pub mod BinaryLemmas
+pub mod MeaningLemmas
+pub mod Laws

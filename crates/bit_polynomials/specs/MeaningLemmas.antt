@@ -1,4 +1,8 @@
--- What elements mean fits, and whatever fits is meant.
+-- What elements mean fits, and whatever fits is meant. Proofs that Laws needs.
+--
+--   mean_fits  an element means a polynomial of at most 32 coefficients
+--   held       each of those is meant by an element
+--   unit_one   the unit that normalises is one, since every polynomial is normal
 use Rattle.std.specs.Prelude.{◌≡◌, ℕ, ◌^◌, ◌<◌, ◌≤◌, true, false, cond, ◌⊎◌, nat_le, refl}
 use Rattle.std.proofs.Common.{sym, ap, ◌∙◌, inl, inr, arith}
 use Rattle.std.proofs.lemmas.Bool.Decides.{leb_tells}

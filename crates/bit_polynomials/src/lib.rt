@@ -8,9 +8,7 @@ ghost use Rattle.bit_polynomials.specs.Meaning.{bit_polynomials, meaning};
 ghost use Rattle.polynomials.proofs.Laws.{polynomial_laws};
 ghost use Rattle.bit_polynomials.specs.Two.{two};
 ghost use Rattle.polynomials.proofs.Sizes.{polynomial_domain};
-ghost use Rattle.std.proofs.Common.{arith};
-ghost use Rattle.polynomials.proofs.Kind.{range_laws, size_laws, division_laws, normal_laws};
-ghost use Rattle.bit_polynomials.specs.MeaningLemmas.{mean_fits, held};
+ghost use Rattle.bit_polynomials.specs.Laws.{range_laws, size_laws, division_laws, normal_laws};
 
 use kinds::{ElementFault, Euclid, Ring, Sums};
 use words::{add, length, long_division, multiply, one, same, zero};
@@ -65,13 +63,13 @@ impl Ring for BitPolynomial {
 
     ghost domain = { polynomial_domain two };
 
-    ghost range = { range_laws two 32 _ _ _ (omega arith) mean_fits held };
+    ghost range = { range_laws };
 
-    ghost size = { size_laws two 32 _ _ _ (omega arith) mean_fits };
+    ghost size = { size_laws };
 
-    ghost division = { division_laws two 32 _ _ _ };
+    ghost division = { division_laws };
 
-    ghost normal = { normal_laws two 32 _ _ _ };
+    ghost normal = { normal_laws };
 
     fn set_zero(&mut self) {
         self.put(zero());

@@ -1,4 +1,7 @@
--- Quotient and remainder of members within a bound are within it.
+-- Quotient and remainder of members within a bound are within it. Proofs that Laws needs.
+--
+--   remainder_within  the remainder, where the divisor is within it
+--   quotient_within   the quotient, where the dividend is within it
 use Rattle.std.specs.Prelude.{◌≡◌, ℕ, zero, suc, ◌+◌, ◌*◌, ◌<◌, ◌≤◌, ℤ, pos, ◌-ℤ◌, ◌*ℤ◌, ◌<ℤ◌, unsigned_abs, refl}
 use Rattle.std.proofs.Common.{sym, ap, subst, ◌∙◌, arith}
 use Rattle.std.proofs.Math.Nat as nat

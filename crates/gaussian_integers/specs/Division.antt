@@ -1,4 +1,10 @@
--- Division of Gaussian integers by rounding.
+-- Division of Gaussian integers by rounding. Proofs that Laws needs.
+--
+--   divides         a member is quotient times divisor, and the remainder
+--   half            the remainder has at most half the size of the divisor
+--   smaller         so it is smaller than the divisor
+--   same_remainder  members that differ by a multiple have one remainder
+--   remainder_same  and only those
 use Rattle.std.specs.Prelude.{◌≡◌, ℕ, suc, ◌+◌, ◌*◌, ◌<◌, ◌≤◌, [], ◌∷◌, ◌-ℤ◌, ◌*ℤ◌, unsigned_abs, refl}
 use Rattle.std.proofs.Common.{sym, ap, ◌∙◌, arith}
 use Rattle.std.proofs.Math.Nat as nat

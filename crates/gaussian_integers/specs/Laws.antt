@@ -1,4 +1,9 @@
--- The Gaussian integers keep the laws of a kind.
+-- The Gaussian integers keep the laws of a kind. Proofs, here since the kind's impl names them.
+--
+--   range_laws     which members fit, and that each of those is meant by an element
+--   size_laws      the Euclidean size
+--   division_laws  quotient and remainder
+--   normal_laws    one normal member among a member and its unit multiples
 use Rattle.std.specs.Prelude.{refl}
 use Rattle.std.proofs.Common.{◌∙◌, arith}
 use Rattle.std.proofs.lemmas.Bool.Decides.{nat_tests}

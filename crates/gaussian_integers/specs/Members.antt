@@ -1,4 +1,11 @@
--- The Gaussian integers are a commutative ring, and the norm is multiplicative.
+-- The Gaussian integers are a commutative ring, and the norm is multiplicative. Proofs that Laws needs.
+--
+--   parts_equal     members with the same parts are the same
+--   gaussian_laws   the laws of a commutative ring
+--   norm_mul        the norm of a product
+--   norm_conjugate  the norm of the conjugate
+--   mul_conjugate   a member times its conjugate is its norm
+--   mul_real        a member times a whole number
 use Rattle.std.specs.Prelude.{◌≡◌, [], ◌∷◌, ℤ, pos, ◌*ℤ◌, refl}
 use Rattle.std.proofs.Common.{ap₂}
 use Rattle.algebra.specs.Ring.{RingLaws}

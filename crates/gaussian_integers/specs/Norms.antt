@@ -1,4 +1,15 @@
--- The size of a Gaussian integer: a sum of two squares.
+-- The size of a Gaussian integer: a sum of two squares. Proofs that Laws needs.
+--
+--   norm_size        the norm is the size
+--   abs_norm         its magnitude too
+--   size_mul         the size of a product
+--   size_conjugate   the size of the conjugate
+--   zero_size        only zero has size zero
+--   size_positive    all else has a size above zero
+--   norm_positive    and a norm above zero
+--   gaussian_domain  a product of nonzero members is nonzero
+--   size_multiple    a nonzero multiple is at least as large
+--   size_within      the size of a member whose parts are bounded
 use Rattle.std.specs.Prelude.{◌≡◌, ℕ, zero, suc, ◌+◌, ◌*◌, ◌<◌, ◌≤◌, ℤ, pos, ◌+ℤ◌, ◌<ℤ◌, ◌≢◌, unsigned_abs, refl}
 use Rattle.std.proofs.Common.{sym, ap, ap₂, ◌∙◌, arith}
 use Rattle.std.proofs.Math.Nat as nat

@@ -1,4 +1,7 @@
--- Rounding to the nearest whole number.
+-- Rounding to the nearest whole number. Proofs that Laws needs.
+--
+--   nearest_error  twice the error is at most the divisor
+--   nearest_shift  a whole number more of divisors is as much more rounded
 use Rattle.std.specs.Prelude.{◌≡◌, ◌+◌, ◌<◌, ◌≤◌, T, [], ◌∷◌, ℤ, pos, ◌+ℤ◌, ◌-ℤ◌, ◌*ℤ◌, ◌<ℤ◌, ◌≢◌, unsigned_abs, refl}
 use Rattle.std.proofs.Common.{ap, ◌∙◌, arith}
 use Rattle.std.specs.Int.Signed.{non_neg}

@@ -1,4 +1,9 @@
--- The four units, and the one normal member among the four multiples by them.
+-- The four units, and the one normal member among the four multiples by them. Proofs that Laws needs.
+--
+--   unit_within   a unit multiple keeps within a bound
+--   normal_once   two normal unit multiples are the same
+--   unit_inverse  the unit that normalises, times its inverse
+--   unit_normal   a member times that unit is normal
 use Rattle.std.specs.Prelude.{◌≡◌, ℕ, zero, suc, Bool, true, false, cond, ◌⊎◌, List, [], ◌∷◌, ℤ, pos, negsuc, neg_ℤ, ◌≤ℤ◌, ◌<ℤ◌, unsigned_abs, refl}
 use Rattle.std.proofs.Common.{sym, ap, subst, ◌∙◌, inl, inr, arith}
 use Rattle.std.proofs.lemmas.Int.{ints}

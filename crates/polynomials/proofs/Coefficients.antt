@@ -1,9 +1,8 @@
 -- Polynomials by their coefficients: those with the same coefficients are equal.
-use mathlib.Core.Path.{◌≡◌, refl, fun_ext}
+use Rattle.std.proofs.Common.{◌≡◌, ℕ, zero, suc, ◌≤◌, refl, arith}
+use mathlib.Core.Path.{fun_ext}
 use mathlib.Core.HLevel.{is_prop→PathP, Π_prop, ¬_prop, hedberg}
-use Prim.Native.Nat.{ℕ, zero, suc, ◌≤◌}
 use native.Mathlib.Decide.{dec_le}
-use native.Mathlib.Omega.{arith}
 use Rattle.algebra.specs.Field.{Field}
 use Rattle.algebra.specs.Sequence.{Ends, before, convolution}
 use Rattle.polynomials.specs.Polynomial.{Sized, Polynomial, null, add_power, drop_power, plus, minus, times}

@@ -1,9 +1,6 @@
 -- Division of polynomials: quotient and remainder exist, and are the only ones.
-use mathlib.Core.Path.{◌≡◌, refl, sym, ap, ap₂, ◌∙◌}
-use mathlib.Core.List.{[], ◌∷◌}
-use Prim.Native.Nat.{ℕ, zero, suc, pred, ◌<◌, ◌≤◌}
+use Rattle.std.proofs.Common.{◌≡◌, ℕ, zero, suc, pred, ◌<◌, ◌≤◌, [], ◌∷◌, sym, refl, ap, ◌∙◌, ap₂, arith}
 use native.Mathlib.Decide.{ℕ_discrete}
-use native.Mathlib.Omega.{arith}
 use Rattle.algebra.specs.Ring.{sub, Divides}
 use Rattle.algebra.specs.Field.{Field}
 use Rattle.algebra.proofs.Ring.{zero_mul, zero_add, sub_zero}

@@ -1,6 +1,5 @@
 -- The polynomials over a field are a commutative ring.
-use mathlib.Core.Path.{◌≡◌, refl, ap₂, ◌∙◌}
-use Prim.Native.Nat.{ℕ}
+use Rattle.std.proofs.Common.{◌≡◌, ℕ, refl, ◌∙◌, ap₂}
 use Rattle.algebra.specs.Ring.{RingLaws}
 use Rattle.algebra.specs.Field.{Field}
 use Rattle.algebra.proofs.Ring.{one_mul}

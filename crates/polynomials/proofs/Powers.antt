@@ -1,6 +1,5 @@
 -- The variable, and polynomials built from it power by power.
-use mathlib.Core.Path.{◌≡◌, refl, sym, ap, ap₂, ◌∙◌}
-use Prim.Native.Nat.{ℕ, zero, suc}
+use Rattle.std.proofs.Common.{◌≡◌, ℕ, zero, suc, sym, refl, ap, ◌∙◌, ap₂}
 use Rattle.algebra.specs.Field.{Field}
 use Rattle.algebra.specs.Sequence.{before, convolution}
 use Rattle.algebra.proofs.Ring.{one_mul, zero_mul, zero_add}

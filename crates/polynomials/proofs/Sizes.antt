@@ -1,9 +1,6 @@
 -- Sizes of polynomials; a product of nonzero polynomials is nonzero.
-use mathlib.Core.Path.{◌≡◌, refl, sym, ap, ap₂, ◌∙◌}
-use mathlib.Core.List.{[], ◌∷◌}
-use Prim.Native.Nat.{ℕ, zero, suc, ◌+◌, ◌≤◌}
+use Rattle.std.proofs.Common.{◌≡◌, ℕ, zero, suc, ◌+◌, ◌≤◌, [], ◌∷◌, sym, refl, ap, ◌∙◌, ap₂, arith}
 use native.Mathlib.Decide.{ℕ_discrete, dec_le}
-use native.Mathlib.Omega.{arith}
 use Rattle.algebra.specs.Ring.{Domain}
 use Rattle.algebra.specs.Field.{Field}
 use Rattle.algebra.specs.Sequence.{Ends}

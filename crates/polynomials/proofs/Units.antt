@@ -1,7 +1,5 @@
 -- The units of the polynomials, and their normal form.
-use mathlib.Core.Path.{◌≡◌, refl, sym, ap, ◌∙◌}
-use Prim.Native.Nat.{ℕ, zero, suc}
-use native.Mathlib.Omega.{arith}
+use Rattle.std.proofs.Common.{◌≡◌, ℕ, zero, suc, sym, refl, ap, ◌∙◌, arith}
 use Rattle.algebra.specs.Ring.{Invertible}
 use Rattle.algebra.specs.Field.{Field}
 use Rattle.algebra.proofs.Ring.{one_mul, mul_zero, zero_mul}
