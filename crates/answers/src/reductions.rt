@@ -1,6 +1,6 @@
 // Reductions of integer matrices: counts of steps, diagonals and refusals.
 use integers::Integer;
-use kinds::{ElementFault, Sums};
+use kinds::ElementFault;
 use presentation::{CallFault, Open, Run, Step, Table, TableFault, open};
 use std::test::Fail;
 

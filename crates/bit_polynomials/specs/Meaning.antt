@@ -2,7 +2,7 @@
 --
 --   meaning         the member that an element means: the polynomial of its bits, or zero where it has more than 32
 --                   (a stored word never has)
---   bit_polynomials  the model of the kind: the polynomials of 32 coefficients at most fit
+--   bit_polynomials the model of the kind: the polynomials of 32 coefficients at most fit
 use Rattle.std.specs.Prelude.{cond, nat_le}
 use Rattle.kinds.specs.Model.{Model}
 use Rattle.polynomials.specs.Polynomial.{Polynomial, null}

@@ -1,4 +1,4 @@
-// Each kind at its corners, and relations reduced over each, as tests.
+// The Gaussian integers and the bit polynomials at their corners, and relations reduced over each, as tests.
 #![tactic(auto)]
 
 #[cfg(test)]

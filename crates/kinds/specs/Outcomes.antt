@@ -1,6 +1,6 @@
 -- What the calls on elements and sums leave, and the numbers of their faults.
 --
---   fault_number  Range 1, Zero divisor 2, Sum full 3
+--   fault_number Range 1, Zero divisor 2, Sum full 3
 --   Becomes      a lent element means a given member, or Range: the member does not fit and the element is left
 --   Takes        a sum took one product more, or Sum full: it had 32 and is left
 --   Divided      lent quotient and remainder are set, or Zero divisor: both are left

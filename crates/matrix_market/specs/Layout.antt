@@ -1,36 +1,37 @@
 -- The layout of a Matrix Market file in array form, over the integers: what some bytes read as, and the bytes
 -- that are written.
 --
---   Bytes      a text, byte by byte
---   onto       a byte in front of the first of some pieces
---   lines      the lines of a text: one ends at a line feed or at the end, and a line feed at the end begins no other
---   blank      space, tab and carriage return
---   ends       a field ends here: at a blank or at the end of the line
---   fields     the runs of bytes of a line that are no blanks
---   number     the number that digits write, after digits that wrote n
---   digits     the number that 1 to k digits write
---   ranged     a magnitude with its sign, or Range where it is above 536870911
---   integer    the integer that a field writes: an optional minus, and 1 to 18 digits
---   named      the fields are these words, in any letter case
---   kind       the words of the header: matrix array integer general
---   banner     the first field of the header
---   is_header_line   the first line: the banner, then the kind
---   is_comment_line  a line that begins with a percent sign
---   shape      both sizes, where they are in bounds
---   sizes      the sizes that the fields of a size line give
---   inner      an integer, or a refusal of the entry at line `at` with what it was
---   entry      the entry that the fields of line `at` give
---   before     one entry in front of others, or the first refusal
---   entries    k entries from line `at` on, one to a line, and nothing after them
---   Matrix     the rows, the columns, and the entries column by column
---   shaped     a matrix of entries, or their refusal
---   sized      the matrix that a size line at `at` and the lines after it give
---   body       what the lines from `at` on give: comments, the size line, the entries
---   headed     what all the lines give
---   parse      what a text reads as; one of more than 65536 bytes is refused
---   column     integers written one to a line
---   opening    the first two lines that are written
---   text       what is written of a matrix
+--   Bytes           a text, byte by byte
+--   onto            a byte in front of the first of some pieces
+--   lines           the lines of a text: one ends at a line feed or at the end, and a line feed at the end begins no
+--                   other
+--   blank           space, tab and carriage return
+--   ends            a field ends here: at a blank or at the end of the line
+--   fields          the runs of bytes of a line that are no blanks
+--   number          the number that digits write, after digits that wrote n
+--   digits          the number that 1 to k digits write
+--   ranged          a magnitude with its sign, or Range where it is above 536870911
+--   integer         the integer that a field writes: an optional minus, and 1 to 18 digits
+--   named           the fields are these words, in any letter case
+--   kind            the words of the header: matrix array integer general
+--   banner          the first field of the header
+--   is_header_line  the first line: the banner, then the kind
+--   is_comment_line a line that begins with a percent sign
+--   shape           both sizes, where they are in bounds
+--   sizes           the sizes that the fields of a size line give
+--   inner           an integer, or a refusal of the entry at line `at` with what it was
+--   entry           the entry that the fields of line `at` give
+--   before          one entry in front of others, or the first refusal
+--   entries         k entries from line `at` on, one to a line, and nothing after them
+--   Matrix          the rows, the columns, and the entries column by column
+--   shaped          a matrix of entries, or their refusal
+--   sized           the matrix that a size line at `at` and the lines after it give
+--   body            what the lines from `at` on give: comments, the size line, the entries
+--   headed          what all the lines give
+--   parse           what a text reads as; one of more than 65536 bytes is refused
+--   column          integers written one to a line
+--   opening         the first two lines that are written
+--   text            what is written of a matrix
 use Rattle.std.specs.Prelude.{ℕ, zero, suc, ◌+◌, ◌-◌, ◌*◌, Bool, true, false, cond, ◌&&◌, ◌||◌, List, [], ◌∷◌, ◌++◌, map, length, take, drop, ℤ, pos, neg_ℤ, Some, None, Ok, Err, codes, decimal, Option, Result, ◌==◌, nat_le}
 use Rattle.std.specs.Char.{to_ascii_lowercase, is_ascii_digit}
 use Rattle.std.specs.Str.{bytes_eq}

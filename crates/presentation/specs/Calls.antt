@@ -4,12 +4,12 @@
 --   of_open      those of an open state
 --   of_finished  those of a finished one
 --   Bounded      the bounds that every state keeps
---   LentAdd     what add writes: A, W, P, P*
+--   LentAdd      what add writes: A, W, P, P*
 --   lent_add     four tables as such
---   LentStep    what step and run are lent: W, P, P*, Q, Q*
+--   LentStep     what step and run are lent: W, P, P*, Q, Q*
 --   lent_step    five tables as such
---   LongAdd     the tables of add have at least 1,024 elements, and the row at least n
---   LongStep    the tables of step and run have at least 1,024 elements
+--   LongAdd      the tables of add have at least 1,024 elements, and the row at least n
+--   LongStep     the tables of step and run have at least 1,024 elements
 --   Opening      what open answers and leaves of Q and Q*
 --   Accepted     what an accepted relation does to the tables
 --   Accepting    a relation is accepted, or refused with the tables as found
@@ -17,8 +17,8 @@
 --   after        the shape after a line: the corner rises by line 8 alone
 --   by_rows      the tables that an operation on rows is performed on: W, P, P*
 --   by_columns   those for an operation on columns: W, Q, Q*
---   MadeOn      the operation of a line was made on the tables, and the other tables are as they were
---   UnfitOn     the first entry that the operation of a line would write and that does not fit
+--   MadeOn       the operation of a line was made on the tables, and the other tables are as they were
+--   UnfitOn      the first entry that the operation of a line would write and that does not fit
 --   Performs     a line was performed, or nothing was written
 --   Next         one step: a line, its positions and its operation
 --   Refused      why a step is refused

@@ -1,8 +1,8 @@
 -- Faults, each whole inside the next, and the numbers of refusals.
 --
 --   faulted      an element's fault at a place
---   PlacedAt    an element's answer, with the place of its fault
---   call_number   Short 4, Generators 5, Full 6, and an element's fault by its own number
+--   PlacedAt     an element's answer, with the place of its fault
+--   call_number  Short 4, Generators 5, Full 6, and an element's fault by its own number
 use Rattle.std.specs.Prelude.{◌≡◌, ℕ, Ok, Err, Result}
 use Rattle.kinds.specs.declared.ElementFault.{ElementFault}
 use Rattle.kinds.specs.Outcomes.{fault_number}

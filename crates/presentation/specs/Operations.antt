@@ -6,9 +6,9 @@
 --   Within         the rows or columns of an operation are among the first 32
 --   changed        the new entry of a row or column, of its own x and the other one's y
 --   NewEntry       an element that means the new entry, or Range: it does not fit
---   new_entry       entry k of the row or column that an update changes
---   FitUpdate     each entry that an update would write fits
---   UnfitUpdate   the fault of the first that does not
+--   new_entry      entry k of the row or column that an update changes
+--   FitUpdate      each entry that an update would write fits
+--   UnfitUpdate    the fault of the first that does not
 --   Fitting        all entries of an update fit, or that fault
 --   Changed        a row or column has its new entries, and all else is as it was
 --   Fit            each entry that an operation would write fits

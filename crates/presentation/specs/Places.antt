@@ -5,7 +5,7 @@
 --   transform    the table that keeps the operations of an axis
 --   inverse      the inverse of that table
 --   position     the table, row and column of entry k of row i, or of column i
---   fault_at      the fault of that entry
+--   fault_at     the fault of that entry
 --   meant        the member at a place, and zero past the end
 --   Written      a row or column has new entries, and all else is as it was
 --   Swapped      two rows or columns are exchanged, and all else is as it was

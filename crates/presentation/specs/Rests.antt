@@ -1,19 +1,19 @@
 -- The rest of the worktable, from the corner on, and the line that a step prescribes.
 --
---   In           an entry of the rest
---   member       the member at row i and column j of a table
---   RestZero     every entry of the rest is zero
---   Pivotal      an entry of the rest that is not zero
---   Zeros        entries of row or column c from c + 1 on are zero
---   FirstNonzero the first that is not
---   Better       a size that takes the place of the least so far, which is 0 at first
---   Earlier      (a, b) comes before (i, j), by rows and then columns
---   DividedBy   a member that b leaves no remainder of
---   AllDivided   every entry of the rest is
+--   In             an entry of the rest
+--   member         the member at row i and column j of a table
+--   RestZero       every entry of the rest is zero
+--   Pivotal        an entry of the rest that is not zero
+--   Zeros          entries of row or column c from c + 1 on are zero
+--   FirstNonzero   the first that is not
+--   Better         a size that takes the place of the least so far, which is 0 at first
+--   Earlier        (a, b) comes before (i, j), by rows and then columns
+--   DividedBy      a member that b leaves no remainder of
+--   AllDivided     every entry of the rest is
 --   FirstUndivided the first that is not, by rows and then columns
---   operation    the elementary operation that a line stands for, on rows or on columns
---   positions    the positions of a line are after the corner
---   Placed       the corner lies in the table, and the positions of a line after it
+--   operation      the elementary operation that a line stands for, on rows or on columns
+--   positions      the positions of a line are after the corner
+--   Placed         the corner lies in the table, and the positions of a line after it
 use Rattle.std.specs.Prelude.{◌≡◌, ℕ, ◌+◌, ◌*◌, ◌<◌, ◌≤◌, ◌⊎◌, List, Some, None, Option}
 use Rattle.kinds.specs.Model.{Model}
 use Rattle.presentation.specs.declared.table.Axis.{Axis}
