@@ -1,6 +1,6 @@
 -- The convolution of sequences: the laws of a commutative product, and where it ends.
 use Rattle.std.proofs.Common.{◌≡◌, ℕ, zero, suc, ◌+◌, ◌-◌, ◌<◌, ◌≤◌, [], ◌∷◌, sym, refl, ap, ◌∙◌, ap₂, arith}
-use native.Mathlib.Decide.{dec_le}
+use Rattle.std.proofs.Math.Decide.{dec_le}
 use Rattle.algebra.specs.Ring.{Ring, RingLaws}
 use Rattle.algebra.specs.Sequence.{Ends, convolution}
 use Rattle.algebra.proofs.Ring.{add_mul, mul_zero, zero_mul, zero_add}

@@ -1,31 +1,31 @@
 -- Magnitudes of products and squares of integers.
-use Rattle.std.proofs.Common.{◌≡◌, ℕ, zero, suc, ◌+◌, ◌*◌, ◌<◌, ◌≤◌, true, false, leb, ◌⊎◌, ℤ, pos, negsuc, ◌*ℤ◌, neg_ℤ, nat_abs, sym, refl, ap, ◌∙◌, inl, inr, arith}
-use native.Mathlib.Nat as nat
-use lib.IntN.{zero-*ℤ}
+use Rattle.std.proofs.Common.{◌≡◌, ℕ, zero, suc, ◌+◌, ◌*◌, ◌<◌, ◌≤◌, true, false, leb, ◌⊎◌, ℤ, pos, negsuc, ◌*ℤ◌, neg_ℤ, unsigned_abs, sym, refl, ap, ◌∙◌, inl, inr, arith}
+use Rattle.std.proofs.Math.Nat as nat
+use Rattle.std.proofs.Math.IntN.{zero-*ℤ}
 use Rattle.std.proofs.lemmas.Int.{ints}
 use Rattle.std.proofs.lemmas.Bool.Decides.{leb_tells}
 
-pub abs_neg : (z : ℤ) → nat_abs (neg_ℤ z) ≡ nat_abs z
+pub abs_neg : (z : ℤ) → unsigned_abs (neg_ℤ z) ≡ unsigned_abs z
 abs_neg (pos zero) = refl
 abs_neg (pos (suc n)) = refl
 abs_neg (negsuc n) = refl
 
-pub abs_mul : (a b : ℤ) → nat_abs (a *ℤ b) ≡ nat_abs a * nat_abs b
+pub abs_mul : (a b : ℤ) → unsigned_abs (a *ℤ b) ≡ unsigned_abs a * unsigned_abs b
 abs_mul (pos a) (pos b) = refl
 abs_mul (pos a) (negsuc b) = abs_neg (pos (a * suc b))
 abs_mul (negsuc a) (pos b) = abs_neg (pos (suc a * b))
 abs_mul (negsuc a) (negsuc b) = refl
 
-pub abs_mul_le : (a b : ℤ) (m n : ℕ) → nat_abs a ≤ m → nat_abs b ≤ n → nat_abs (a *ℤ b) ≤ m * n
+pub abs_mul_le : (a b : ℤ) (m n : ℕ) → unsigned_abs a ≤ m → unsigned_abs b ≤ n → unsigned_abs (a *ℤ b) ≤ m * n
 abs_mul_le a b m n p q = rw (abs_mul a b) (nat.mul-le-mul p q)
 
-pub abs_pos : (b : ℤ) → (b ≡ pos 0 → ⊥) → 0 < nat_abs b
+pub abs_pos : (b : ℤ) → (b ≡ pos 0 → ⊥) → 0 < unsigned_abs b
 abs_pos (pos zero) h = absurd (h refl)
 abs_pos (pos (suc n)) h = omega arith
 abs_pos (negsuc n) h = omega arith
 
 pub mul_not_zero : (a b : ℤ) → (a ≡ pos 0 → ⊥) → (b ≡ pos 0 → ⊥) → a *ℤ b ≡ pos 0 → ⊥
-mul_not_zero a b p q e = omega (arith, nat.mul-pos {m = nat_abs a} {n = nat_abs b} (abs_pos a p) (abs_pos b q), abs_mul a b, ap nat_abs e)
+mul_not_zero a b p q e = omega (arith, nat.mul-pos {m = unsigned_abs a} {n = unsigned_abs b} (abs_pos a p) (abs_pos b q), abs_mul a b, ap unsigned_abs e)
 
 pub one_of_product : (m n : ℕ) → m * n ≡ 1 → m ≡ 1
 one_of_product zero n e = absurd (omega (arith, nat.zero-mul n))
@@ -34,14 +34,14 @@ one_of_product (suc (suc m)) zero e = absurd (omega (arith, nat.mul-zero (suc (s
 one_of_product (suc (suc m)) (suc n) e = absurd (omega (arith, nat.mul-le-mul {n₁ = 2} {m₁ = 1} {n₂ = suc (suc m)} {m₂ = suc n} (omega arith) (omega arith)))
 
 -- a unit is 1 or -1
-pub unit_abs : (u v : ℤ) → u *ℤ v ≡ pos 1 → nat_abs u ≡ 1
-unit_abs u v e = one_of_product (nat_abs u) (nat_abs v) (sym (abs_mul u v) ∙ ap nat_abs e)
+pub unit_abs : (u v : ℤ) → u *ℤ v ≡ pos 1 → unsigned_abs u ≡ 1
+unit_abs u v e = one_of_product (unsigned_abs u) (unsigned_abs v) (sym (abs_mul u v) ∙ ap unsigned_abs e)
 
 -- a nonzero multiple of b has at least the magnitude of b
-pub abs_multiple : (q b : ℤ) → (q *ℤ b ≡ pos 0 → ⊥) → nat_abs b ≤ nat_abs (q *ℤ b)
+pub abs_multiple : (q b : ℤ) → (q *ℤ b ≡ pos 0 → ⊥) → unsigned_abs b ≤ unsigned_abs (q *ℤ b)
 abs_multiple (pos zero) b h = absurd (h (zero-*ℤ b))
-abs_multiple (pos (suc n)) b h = omega (arith, abs_mul (pos (suc n)) b, nat.suc-mul n (nat_abs b))
-abs_multiple (negsuc n) b h = omega (arith, abs_mul (negsuc n) b, nat.suc-mul n (nat_abs b))
+abs_multiple (pos (suc n)) b h = omega (arith, abs_mul (pos (suc n)) b, nat.suc-mul n (unsigned_abs b))
+abs_multiple (negsuc n) b h = omega (arith, abs_mul (negsuc n) b, nat.suc-mul n (unsigned_abs b))
 
 pub at_most : (m n : ℕ) → (n < m → ⊥) → m ≤ n
 at_most m n h = go (leb_tells m n)
@@ -64,18 +64,18 @@ one_of_squares zero n e = inr (refl, one_of_product n n (omega (arith, nat.zero-
 one_of_squares (suc zero) n e = inl (refl, square_zero n (omega arith))
 one_of_squares (suc (suc m)) n e = absurd (omega (arith, nat.mul-le-mul {n₁ = 2} {m₁ = 2} {n₂ = suc (suc m)} {m₂ = suc (suc m)} (omega arith) (omega arith)))
 
-pub abs_zero : (x : ℤ) → nat_abs x ≡ 0 → x ≡ pos 0
+pub abs_zero : (x : ℤ) → unsigned_abs x ≡ 0 → x ≡ pos 0
 abs_zero x e = omega (arith, ints)
 
-pub abs_one : (x : ℤ) → nat_abs x ≡ 1 → (x ≡ pos 1) ⊎ (x ≡ negsuc 0)
+pub abs_one : (x : ℤ) → unsigned_abs x ≡ 1 → (x ≡ pos 1) ⊎ (x ≡ negsuc 0)
 abs_one (pos n) e = inl (ap pos e)
 abs_one (negsuc n) e = inr (ap negsuc (omega arith))
 
-pub square_abs : (x : ℤ) → x *ℤ x ≡ pos (nat_abs x * nat_abs x)
+pub square_abs : (x : ℤ) → x *ℤ x ≡ pos (unsigned_abs x * unsigned_abs x)
 square_abs (pos n) = refl
 square_abs (negsuc n) = refl
 
 pub zero_factor : (a b : ℤ) → (a ≡ pos 0 → ⊥) → a *ℤ b ≡ pos 0 → b ≡ pos 0
 zero_factor a (pos zero) h e = refl
-zero_factor a (pos (suc n)) h e = absurd (mul_not_zero a (pos (suc n)) h (λ f. omega (arith, ap nat_abs f)) e)
-zero_factor a (negsuc n) h e = absurd (mul_not_zero a (negsuc n) h (λ f. omega (arith, ap nat_abs f)) e)
+zero_factor a (pos (suc n)) h e = absurd (mul_not_zero a (pos (suc n)) h (λ f. omega (arith, ap unsigned_abs f)) e)
+zero_factor a (negsuc n) h e = absurd (mul_not_zero a (negsuc n) h (λ f. omega (arith, ap unsigned_abs f)) e)

@@ -1,6 +1,6 @@
 -- Where sequences end.
 use Rattle.std.proofs.Common.{◌≡◌, ℕ, zero, suc, ap, ◌∙◌, arith}
-use native.Mathlib.Decide.{ℕ_discrete}
+use Rattle.std.proofs.Math.Decide.{ℕ_discrete}
 use Rattle.algebra.specs.Ring.{Ring}
 use Rattle.algebra.specs.Sequence.{Ends, before}
 

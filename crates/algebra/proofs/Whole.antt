@@ -1,7 +1,7 @@
 -- The integers are a commutative ring.
-use Rattle.std.proofs.Common.{◌≡◌, zero, suc, ℤ, pos, negsuc, ◌+ℤ◌, ◌*ℤ◌, neg_ℤ, nat_abs, sym, ap, ◌∙◌, arith}
-use native.Mathlib.Nat as nat
-use lib.IntN.{suc_ℤ, pred_ℤ, suc_ℤ-*ℤ, pred_ℤ-*ℤ, zero-*ℤ, *ℤ_comm, +ℤ_assoc, +ℤ_comm, +ℤ_idl, +ℤ_idr, +ℤ_invr, suc_ℤ-+ℤ, pred_ℤ-+ℤ}
+use Rattle.std.proofs.Common.{◌≡◌, zero, suc, ℤ, pos, negsuc, ◌+ℤ◌, ◌*ℤ◌, neg_ℤ, unsigned_abs, sym, ap, ◌∙◌, arith}
+use Rattle.std.proofs.Math.Nat as nat
+use Rattle.std.proofs.Math.IntN.{suc_ℤ, pred_ℤ, suc_ℤ-*ℤ, pred_ℤ-*ℤ, zero-*ℤ, *ℤ_comm, +ℤ_assoc, +ℤ_comm, +ℤ_idl, +ℤ_idr, +ℤ_invr, suc_ℤ-+ℤ, pred_ℤ-+ℤ}
 use Rattle.std.proofs.lemmas.Int.{ints}
 use Rattle.algebra.specs.Ring.{RingLaws, Domain}
 use Rattle.algebra.specs.Whole.{whole}
@@ -56,4 +56,4 @@ whole_laws = record {
 }
 
 pub whole_domain : Domain whole
-whole_domain = record { one_not_zero = λ e. omega (arith, ap nat_abs e); mul_not_zero = mul_not_zero }
+whole_domain = record { one_not_zero = λ e. omega (arith, ap unsigned_abs e); mul_not_zero = mul_not_zero }

@@ -1,8 +1,8 @@
 -- Division of integers with a remainder that is not negative.
-use Rattle.std.proofs.Common.{◌≡◌, zero, suc, ◌/◌, ◌<◌, ◌≤◌, T, [], ◌∷◌, ℤ, pos, negsuc, ◌+ℤ◌, ◌-ℤ◌, ◌*ℤ◌, nat_abs, sym, refl, ap, ◌∙◌, arith}
-use native.Mathlib.Nat as nat
-use lib.IntN.{zero-*ℤ}
-use lib.Signed.{non_neg}
+use Rattle.std.proofs.Common.{◌≡◌, zero, suc, ◌/◌, ◌<◌, ◌≤◌, T, [], ◌∷◌, ℤ, pos, negsuc, ◌+ℤ◌, ◌-ℤ◌, ◌*ℤ◌, unsigned_abs, sym, refl, ap, ◌∙◌, arith}
+use Rattle.std.proofs.Math.Nat as nat
+use Rattle.std.proofs.Math.IntN.{zero-*ℤ}
+use Rattle.std.specs.Int.Signed.{non_neg}
 use Rattle.std.specs.Int.{int_div_euclid, int_rem_euclid}
 use Rattle.std.proofs.lemmas.Int.{ints}
 use Rattle.algebra.specs.Ring.{Divides}
@@ -23,7 +23,7 @@ divides (negsuc a) (pos (suc b)) h =
 divides (negsuc a) (negsuc b) h =
     omega (arith, ints, nat.div-add-mod' a (suc b), nat.mod-lt a {m = suc b} (omega arith), nat.suc-mul (a / suc b) (suc b))
 
-pub smaller : (a b : ℤ) → (b ≡ pos 0 → ⊥) → nat_abs (int_rem_euclid a b) < nat_abs b
+pub smaller : (a b : ℤ) → (b ≡ pos 0 → ⊥) → unsigned_abs (int_rem_euclid a b) < unsigned_abs b
 smaller (pos a) b h = nat.mod-lt a (abs_pos b h)
 smaller (negsuc a) b h = let p = abs_pos b h in omega (arith, nat.mod-lt a p)
 
@@ -31,17 +31,17 @@ pub not_negative : (a b : ℤ) → T (non_neg (int_rem_euclid a b))
 not_negative (pos a) b = tt
 not_negative (negsuc a) b = tt
 
-pub abs_quotient : (a b : ℤ) → nat_abs (int_div_euclid a b) ≤ nat_abs a
+pub abs_quotient : (a b : ℤ) → unsigned_abs (int_div_euclid a b) ≤ unsigned_abs a
 abs_quotient (pos a) (pos b) = nat.div-le_self a b
 abs_quotient (pos a) (negsuc b) = rw (abs_neg (pos (a / suc b))) (nat.div-le_self a (suc b))
 abs_quotient (negsuc a) (pos b) = omega (arith, nat.div-le_self a b)
 abs_quotient (negsuc a) (negsuc b) = omega (arith, nat.div-le_self a (suc b))
 
 -- two remainders that differ by a multiple of b are one
-alike : (k b r s : ℤ) → T (non_neg r) → T (non_neg s) → nat_abs r < nat_abs b → nat_abs s < nat_abs b → r -ℤ s ≡ k *ℤ b → r ≡ s
+alike : (k b r s : ℤ) → T (non_neg r) → T (non_neg s) → unsigned_abs r < unsigned_abs b → unsigned_abs s < unsigned_abs b → r -ℤ s ≡ k *ℤ b → r ≡ s
 alike (pos zero) b r s p q f g e = let z = zero-*ℤ b in omega (arith, ints)
-alike (pos (suc n)) b r s p q f g e = omega (arith, ints, ap nat_abs e, abs_mul (pos (suc n)) b, nat.suc-mul n (nat_abs b))
-alike (negsuc n) b r s p q f g e = omega (arith, ints, ap nat_abs e, abs_mul (negsuc n) b, nat.suc-mul n (nat_abs b))
+alike (pos (suc n)) b r s p q f g e = omega (arith, ints, ap unsigned_abs e, abs_mul (pos (suc n)) b, nat.suc-mul n (unsigned_abs b))
+alike (negsuc n) b r s p q f g e = omega (arith, ints, ap unsigned_abs e, abs_mul (negsuc n) b, nat.suc-mul n (unsigned_abs b))
 
 pub same_remainder : (a b c : ℤ) → (b ≡ pos 0 → ⊥) → Divides whole b (a -ℤ c) → int_rem_euclid a b ≡ int_rem_euclid c b
 same_remainder a b c h (k, e) =

@@ -1,9 +1,9 @@
 -- Lengths of words, and turns of the loops over them.
 use Rattle.std.proofs.Common.{◌≡◌, ℕ, zero, suc, ◌+◌, ◌-◌, ◌*◌, ◌%◌, ◌^◌, ◌<◌, ◌≤◌, false, [], ◌∷◌, sym, refl, ap, ◌∙◌, subst, ap₂, subst₂, pow-suc, arith}
-use native.Mathlib.Nat as nat
-use native.Mathlib.Decide.{ℕ_discrete}
-use lib.Bits.{bit_xor}
-use lib.Count.{count_leading_zeros}
+use Rattle.std.proofs.Math.Nat as nat
+use Rattle.std.proofs.Math.Decide.{ℕ_discrete}
+use Rattle.std.specs.Int.Bits.{bit_xor}
+use Rattle.std.specs.Int.Count.{count_leading_zeros}
 use Rattle.std.proofs.lemmas.Nat.{leading_length, shl_whole, one_shl, pow_pos}
 use Rattle.algebra.specs.Ring.{sub}
 use Rattle.algebra.proofs.Ring.{zero_add, zero_mul}

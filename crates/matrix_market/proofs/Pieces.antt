@@ -1,5 +1,5 @@
 -- One piece of text after another into a buffer.
-use Rattle.std.proofs.Common.{◌≡◌, ℕ, suc, ◌+◌, ◌-◌, ◌/◌, ◌^◌, ◌<◌, ◌≤◌, List, [], ◌∷◌, ◌++◌, length, get_or, take, drop, set, ℤ, pos, negsuc, nat_abs, ◌<ℤ◌, None, decimal, sym, refl, ap, ◌∙◌, arith, length-append, w64, SFits, to_z, of_z}
+use Rattle.std.proofs.Common.{◌≡◌, ℕ, suc, ◌+◌, ◌-◌, ◌/◌, ◌^◌, ◌<◌, ◌≤◌, List, [], ◌∷◌, ◌++◌, length, get_or, take, drop, set, ℤ, pos, negsuc, unsigned_abs, ◌<ℤ◌, None, decimal, sym, refl, ap, ◌∙◌, arith, length-append, w64, SFits, to_z, of_z}
 use borrow.Rule.Slice.PartMut.{put_mid}
 use Rattle.std.proofs.lemmas.Fmt.{decimal_step, length-decimal-le}
 use Rattle.std.proofs.lemmas.List.{append_assoc, take_more_set, drop-set-lt, drop-drop}
@@ -38,18 +38,18 @@ pub length_step : (n : ℕ) → 10 ≤ n → n < 2 ^ 64 → length (decimal n) �
 length_step n h l = ap length (decimal_step n h l) ∙ length-append (decimal (n / 10)) _
 
 -- an integer in range takes at most 10 bytes
-pub length_signed : (z : ℤ) → nat_abs z ≤ 536870911 → length (signed_decimal z) ≤ 10
+pub length_signed : (z : ℤ) → unsigned_abs z ≤ 536870911 → length (signed_decimal z) ≤ 10
 length_signed (pos n) h = omega (arith, length-decimal-le 9 n (omega arith) (omega arith) (omega arith))
 length_signed (negsuc n) h = omega (arith, length-decimal-le 9 (suc n) (omega arith) (omega arith) (omega arith))
 
 -- an integer in range as it is passed
-pub passed : (z : ℤ) → nat_abs z ≤ 536870911 → to_z w64 (of_z w64 z) ≡ z
+pub passed : (z : ℤ) → unsigned_abs z ≤ 536870911 → to_z w64 (of_z w64 z) ≡ z
 passed (pos n) h = to_z-of_z w64 (pos n) (record { sfits = omega arith })
 passed (negsuc n) h = to_z-of_z w64 (negsuc n) (record { sfits = omega arith })
 
-pub signed_minus : (z : ℤ) (r : ℕ) → SFits w64 z → z <ℤ pos 0 → r ≡ nat_abs (to_z w64 (of_z w64 z)) → signed_decimal z ≡ 45 ∷ decimal r
+pub signed_minus : (z : ℤ) (r : ℕ) → SFits w64 z → z <ℤ pos 0 → r ≡ unsigned_abs (to_z w64 (of_z w64 z)) → signed_decimal z ≡ 45 ∷ decimal r
 signed_minus (pos n) r f l e = absurd (omega (arith, ints))
-signed_minus (negsuc n) r f l e = ap (λ x. 45 ∷ decimal x) (sym (e ∙ ap nat_abs (to_z-of_z w64 (negsuc n) f)))
+signed_minus (negsuc n) r f l e = ap (λ x. 45 ∷ decimal x) (sym (e ∙ ap unsigned_abs (to_z-of_z w64 (negsuc n) f)))
 
 more : (m k c d : ℕ) (t : List Integer) (done : Bytes) (x : ℤ) (b : ℕ) → c ≡ suc d → x ≡ meaning (get_or t (place m k) (record { value = pos 0 })) → b ≡ 10 → (done ++ (signed_decimal x ++ (b ∷ []))) ++ column (members m t (k + 1) d) ≡ done ++ column (members m t k c)
 more m k c d t done x b e f g = rw (e, ← f, g) (append_assoc done _ _ ∙ ap (λ s. done ++ s) (append_assoc (signed_decimal x) (10 ∷ []) _))

@@ -2,7 +2,7 @@
 use Rattle.std.proofs.Common.{◌≡◌, ℕ, zero, suc, ◌≤◌, refl, arith}
 use mathlib.Core.Path.{fun_ext}
 use mathlib.Core.HLevel.{is_prop→PathP, Π_prop, ¬_prop, hedberg}
-use native.Mathlib.Decide.{dec_le}
+use Rattle.std.proofs.Math.Decide.{dec_le}
 use Rattle.algebra.specs.Field.{Field}
 use Rattle.algebra.specs.Sequence.{Ends, before, convolution}
 use Rattle.polynomials.specs.Polynomial.{Sized, Polynomial, null, add_power, drop_power, plus, minus, times}

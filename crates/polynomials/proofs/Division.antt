@@ -1,6 +1,6 @@
 -- Division of polynomials: quotient and remainder exist, and are the only ones.
 use Rattle.std.proofs.Common.{◌≡◌, ℕ, zero, suc, pred, ◌<◌, ◌≤◌, [], ◌∷◌, sym, refl, ap, ◌∙◌, ap₂, arith}
-use native.Mathlib.Decide.{ℕ_discrete}
+use Rattle.std.proofs.Math.Decide.{ℕ_discrete}
 use Rattle.algebra.specs.Ring.{sub, Divides}
 use Rattle.algebra.specs.Field.{Field}
 use Rattle.algebra.proofs.Ring.{zero_mul, zero_add, sub_zero}

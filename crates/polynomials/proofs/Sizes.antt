@@ -1,6 +1,6 @@
 -- Sizes of polynomials; a product of nonzero polynomials is nonzero.
 use Rattle.std.proofs.Common.{◌≡◌, ℕ, zero, suc, ◌+◌, ◌≤◌, [], ◌∷◌, sym, refl, ap, ◌∙◌, ap₂, arith}
-use native.Mathlib.Decide.{ℕ_discrete, dec_le}
+use Rattle.std.proofs.Math.Decide.{ℕ_discrete, dec_le}
 use Rattle.algebra.specs.Ring.{Domain}
 use Rattle.algebra.specs.Field.{Field}
 use Rattle.algebra.specs.Sequence.{Ends}

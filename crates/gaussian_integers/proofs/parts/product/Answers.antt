@@ -1,4 +1,4 @@
-use Rattle.std.proofs.Common.{◌≤◌, ◌*ℤ◌, nat_abs, refl, arith, w64, SFits}
+use Rattle.std.proofs.Common.{◌≤◌, ◌*ℤ◌, unsigned_abs, refl, arith, w64, SFits}
 use Rattle.std.proofs.lemmas.Int.{ints, to_z-of_z}
 use Rattle.algebra.proofs.Magnitudes.{abs_mul_le}
 use Rattle.gaussian_integers.proofs.parts.product.Goals as goal
@@ -13,7 +13,7 @@ pub returns : goal.returns
 returns c =
     let x = c.args.x in
     let y = c.args.y in
-    let small : nat_abs (x *ℤ y) ≤ 72057593501057025 = abs_mul_le x y 268435455 268435455 c.requires.left c.requires.right in
+    let small : unsigned_abs (x *ℤ y) ≤ 72057593501057025 = abs_mul_le x y 268435455 268435455 c.requires.left c.requires.right in
     let fx : SFits w64 x = c.ranges.x in
     let fy : SFits w64 y = c.ranges.y in
     let fxy : SFits w64 (x *ℤ y) = omega (arith, ints) in
