@@ -1,5 +1,5 @@
 -- Lemmas on finite sums.
-use Rattle.std.proofs.Common.{◌≡◌, ℕ, zero, suc, ◌+◌, ◌<◌, [], ◌∷◌, sym, refl, ap, ◌∙◌, ap₂, add-one, arith}
+use Rattle.std.proofs.Common.{◌≡◌, ◌≢◌, ℕ, zero, suc, ◌+◌, ◌<◌, [], ◌∷◌, sym, refl, ap, ◌∙◌, ap₂, add-one, arith}
 use Rattle.std.proofs.Math.Decide.{ℕ_discrete}
 use Rattle.algebra.specs.Ring.{Ring, RingLaws}
 use Rattle.algebra.specs.Sum.{sum}
@@ -34,10 +34,10 @@ module _ {A : Type 0} {R : Ring A} (laws : RingLaws R) where
   sum_first (suc n) f = ap (λ t. R.add t (f (suc n))) (sum_first n f) ∙ laws.add_assoc (f 0) (sum R n (λ k. f (suc k))) (f (suc n))
 
   -- a sum of which all terms but one are zero
-  pub sum_one : (n j : ℕ) {f : ℕ → A} → j < n → ((k : ℕ) → k < n → (k ≡ j → ⊥) → f k ≡ R.zero) → sum R n f ≡ f j
+  pub sum_one : (n j : ℕ) {f : ℕ → A} → j < n → ((k : ℕ) → k < n → (k ≢ j) → f k ≡ R.zero) → sum R n f ≡ f j
   sum_one zero j l h = absurd (omega arith)
   sum_one (suc n) j {f} l h = last (ℕ_discrete n j) (sum_one n j)
     where
-      last : Dec (n ≡ j) → (j < n → ((k : ℕ) → k < n → (k ≡ j → ⊥) → f k ≡ R.zero) → sum R n f ≡ f j) → sum R (suc n) f ≡ f j
+      last : Dec (n ≡ j) → (j < n → ((k : ℕ) → k < n → (k ≢ j) → f k ≡ R.zero) → sum R n f ≡ f j) → sum R (suc n) f ≡ f j
       last (yes e) before = ap₂ R.add (sum_zero n (λ k m. h k (omega arith) (λ d. omega arith))) (ap f e) ∙ zero_add laws (f j)
       last (no d) before = ap₂ R.add (before (omega arith) (λ k m. h k (omega arith))) (h n (omega arith) d) ∙ laws.add_zero (f j)

@@ -8,6 +8,6 @@ pub record Field (F : Type 0) : Type 0 where
   pub ring : Ring F
   pub laws : RingLaws ring
   pub inverse : F → F
-  pub one_not_zero : ring.one ≡ ring.zero → ⊥
+  pub one_not_zero : ring.one ≢ ring.zero
   pub mul_inverse : (x : F) → (x ≢ ring.zero) → ring.mul x (inverse x) ≡ ring.one
   pub same : (x y : F) → Dec (x ≡ y)

@@ -27,7 +27,7 @@ module _ {A : Type 0} (R : Ring A) where
     pub mul_add : (a b c : A) → R.mul a (R.add b c) ≡ R.add (R.mul a b) (R.mul a c)
 
   pub record Domain : Type 0 where
-    pub one_not_zero : R.one ≡ R.zero → ⊥
+    pub one_not_zero : R.one ≢ R.zero
     pub mul_not_zero : (a b : A) → (a ≢ R.zero) → (b ≢ R.zero) → R.mul a b ≢ R.zero
 
   abbrev pub sub : A → A → A

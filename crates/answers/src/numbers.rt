@@ -55,6 +55,24 @@ fn sets(rt: HostRuntime) {
     }
 }
 
+// The stored value of the element made of z.
+#[test]
+fn converts(rt: HostRuntime) {
+    let cases = [
+        (0, Ok(0)),
+        (-7, Ok(-7)),
+        (536_870_911, Ok(LIMIT)),
+        (-536_870_911, Ok(-LIMIT)),
+        (536_870_912, Err(ElementFault::Range)),
+        (-536_870_912, Err(ElementFault::Range)),
+        (4_294_967_296, Err(ElementFault::Range)),
+        (i64::MIN, Err(ElementFault::Range)),
+    ];
+    for (z, stored) in cases {
+        assert_eq!(rt; Integer::try_from(z).map(|x| x.value), stored);
+    }
+}
+
 #[test]
 fn zero_one_and_copy(rt: HostRuntime) {
     let mut x = integer(7);

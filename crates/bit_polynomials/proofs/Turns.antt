@@ -1,9 +1,10 @@
 -- Lengths of words, and turns of the loops over them.
-use Rattle.std.proofs.Common.{◌≡◌, ℕ, zero, suc, ◌+◌, ◌-◌, ◌*◌, ◌%◌, ◌^◌, ◌<◌, ◌≤◌, false, [], ◌∷◌, sym, refl, ap, ◌∙◌, subst, ap₂, subst₂, pow-suc, arith}
+use Rattle.std.proofs.Common.{◌≡◌, ◌≢◌, ℕ, zero, suc, ◌+◌, ◌-◌, ◌*◌, ◌%◌, ◌^◌, ◌<◌, ◌≤◌, false, [], ◌∷◌, sym, refl, ap, ◌∙◌, subst, ap₂, subst₂, pow-suc, arith}
 use Rattle.std.proofs.Math.Nat as nat
 use Rattle.std.proofs.Math.Decide.{ℕ_discrete}
 use Rattle.std.specs.Int.Bits.{bit_xor}
 use Rattle.std.specs.Int.Count.{count_leading_zeros}
+use Rattle.std.proofs.lemmas.Bool.{true_from_ne_false}
 use Rattle.std.proofs.lemmas.Nat.{leading_length, shl_whole, one_shl, pow_pos}
 use Rattle.algebra.specs.Ring.{sub}
 use Rattle.algebra.proofs.Ring.{zero_add, zero_mul}
@@ -15,7 +16,7 @@ use Rattle.polynomials.proofs.Sizes.{at_most, size_null, degree, times_size}
 use Rattle.polynomials.proofs.Division.{division, division_once}
 use Rattle.bit_polynomials.specs.Two.{two, differ}
 use Rattle.bit_polynomials.specs.Binary.{binary}
-use Rattle.bit_polynomials.specs.BinaryLemmas.{not_false, binary_zero, binary_xor, binary_shift, minus_itself, small_size, size_small, size_digits}
+use Rattle.bit_polynomials.specs.BinaryLemmas.{binary_zero, binary_xor, binary_shift, minus_itself, small_size, size_small, size_digits}
 
 pub length_is : (a : ℕ) → a < 2 ^ 32 → 32 - count_leading_zeros 32 a ≡ size two (binary a)
 length_is a h = let (m, e, l, t) = leading_length 32 a h in by m e l t
@@ -29,7 +30,7 @@ top_cancels : (p q : Polynomial two) (m : ℕ) → size two p ≡ suc m → size
 top_cancels p q m d e = at_most two (plus two p q) m (λ k l. plus_coefficient two p q k ∙ at k l (ℕ_discrete k m))
   where
     at : (k : ℕ) → m ≤ k → Dec (k ≡ m) → differ (p.coefficient k) (q.coefficient k) ≡ false
-    at k l (yes i) = ap₂ differ (ap p.coefficient i ∙ not_false (p.coefficient m) (p.exact.top m d)) (ap q.coefficient i ∙ not_false (q.coefficient m) (q.exact.top m e))
+    at k l (yes i) = ap₂ differ (ap p.coefficient i ∙ true_from_ne_false (p.coefficient m) (p.exact.top m d)) (ap q.coefficient i ∙ true_from_ne_false (q.coefficient m) (q.exact.top m e))
     at k l (no i) = ap₂ differ (p.exact.beyond k (omega arith)) (q.exact.beyond k (omega arith))
 
 binary_difference : (a b : ℕ) → binary (bit_xor a b) ≡ sub (polynomials two) (binary a) (binary b)
@@ -71,35 +72,33 @@ division_turn q left b s p e =
 pub multiply_start : (p : Polynomial two) → plus two (binary 0) p ≡ p
 multiply_start p = ap (λ t. plus two t p) binary_zero ∙ zero_add (polynomial_laws two) p
 
-pub multiply_end : (total left : ℕ) (b p : Polynomial two) → size two (binary left) ≡ 0 → plus two (binary total) (times two (binary left) b) ≡ p → binary total ≡ p
-multiply_end total left b p z e =
-    sym ((polynomial_laws two).add_zero (binary total)) ∙ ap (plus two (binary total)) (sym (ap (λ t. times two t b) (size_null two (binary left) z) ∙ zero_mul (polynomial_laws two) b)) ∙ e
+pub multiply_end : (total left : ℕ) (b : Polynomial two) → size two (binary left) ≡ 0 → plus two (binary total) (times two (binary left) b) ≡ binary total
+multiply_end total left b z = ap (plus two (binary total)) (ap (λ t. times two t b) (size_null two (binary left) z) ∙ zero_mul (polynomial_laws two) b) ∙ (polynomial_laws two).add_zero (binary total)
 
 pub division_start : (a b : Polynomial two) → a ≡ plus two (times two (binary 0) b) a
 division_start a b = sym (ap (λ t. plus two (times two t b) a) binary_zero ∙ ap (λ t. plus two t a) (zero_mul (polynomial_laws two) b) ∙ zero_add (polynomial_laws two) a)
 
-pub division_end : (a b q r : Polynomial two) → (b ≡ null two → ⊥) → a ≡ plus two (times two q b) r → size two r < size two b → (q ≡ quotient two a b) × (r ≡ remainder two a b)
+pub division_end : (a b q r : Polynomial two) → (b ≢ null two) → a ≡ plus two (times two q b) r → size two r < size two b → (q ≡ quotient two a b) × (r ≡ remainder two a b)
 division_end a b q r h e l = division_once two a b q r (quotient two a b) (remainder two a b) h (record { is = e; smaller = l }) (division two a b h)
 
 -- a turn of the product's loop on words: n is the size of what is left of a
-module _ (total left b n : ℕ) (is : n ≡ size two (binary left)) (some : 0 < n) (few : n ≤ 32) (word : b < 2 ^ 32) where
-  moved : (b * 2 ^ (n - 1)) % 2 ^ 64 ≡ b * 2 ^ (n - 1)
-  moved = shift_whole 64 b (n - 1) 32 (small_size 32 b word) (omega arith)
-
+module _ (left n : ℕ) (is : n ≡ size two (binary left)) (some : 0 < n) (few : n ≤ 32) where
   power : (1 * 2 ^ (n - 1)) % 2 ^ 32 ≡ 2 ^ (n - 1)
   power = one_shl (n - 1) 32 (omega arith)
-
-  pub product_again : (p : Polynomial two) → plus two (binary total) (times two (binary left) (binary b)) ≡ p
-      → plus two (binary (bit_xor total ((b * 2 ^ (n - 1)) % 2 ^ 64))) (times two (binary (bit_xor left ((1 * 2 ^ (n - 1)) % 2 ^ 32))) (binary b)) ≡ p
-  product_again p e = subst₂ (λ x y. plus two (binary (bit_xor total x)) (times two (binary (bit_xor left y)) (binary b)) ≡ p) (sym moved) (sym power) (multiply_turn total left b (n - 1) p e)
 
   pub product_less : size two (binary (bit_xor left ((1 * 2 ^ (n - 1)) % 2 ^ 32))) < size two (binary left)
   product_less =
       let e : size two (binary left) ≡ suc (n - 1 + 0) = omega arith in
       subst (λ y. size two (binary (bit_xor left y)) < size two (binary left)) (nat.one-mul (2 ^ (n - 1)) ∙ sym power) (turn_smaller left 1 (n - 1) 0 (power_size 0) e)
 
+  pub product_again : (total b : ℕ) (p : Polynomial two) → b < 2 ^ 32 → plus two (binary total) (times two (binary left) (binary b)) ≡ p
+      → plus two (binary (bit_xor total ((b * 2 ^ (n - 1)) % 2 ^ 64))) (times two (binary (bit_xor left ((1 * 2 ^ (n - 1)) % 2 ^ 32))) (binary b)) ≡ p
+  product_again total b p word e =
+      let moved = shift_whole 64 b (n - 1) 32 (small_size 32 b word) (omega arith) in
+      subst₂ (λ x y. plus two (binary (bit_xor total x)) (times two (binary (bit_xor left y)) (binary b)) ≡ p) (sym moved) (sym power) (multiply_turn total left b (n - 1) p e)
+
 -- a turn of the division's loop on words: n is the size of b, and m that of what is left
-module _ (q left b n m : ℕ) (is_b : n ≡ size two (binary b)) (is-left : m ≡ size two (binary left)) (some : binary b ≡ null two → ⊥) (enough : n ≤ m) (few : m ≤ 32) where
+module _ (q left b n m : ℕ) (is_b : n ≡ size two (binary b)) (is-left : m ≡ size two (binary left)) (some : binary b ≢ null two) (enough : n ≤ m) (few : m ≤ 32) where
   positive : 0 < n
   positive = let (d, e) = degree two (binary b) some in omega arith
 
@@ -118,3 +117,8 @@ module _ (q left b n m : ℕ) (is_b : n ≡ size two (binary b)) (is-left : m �
       let (d, e) = degree two (binary b) some in
       let f : size two (binary left) ≡ suc (m - n + d) = omega arith in
       subst (λ y. size two (binary (bit_xor left y)) < size two (binary left)) (sym up) (turn_smaller left b (m - n) d e f)
+
+-- what the loops of `multiply` and `long_division` need
+pub ruleset product_turns = (multiply_start, multiply_end, product_again, product_less)
+
+pub ruleset division_turns = (division_start, division_end, division_again, division_less, shift_fits)

@@ -1,6 +1,5 @@
 -- Numbers as polynomials over the field of two: their digits, sums, shifts and sizes. Proofs that Laws needs.
 --
---   not_false     what is not false is true
 --   binary_zero   the number 0 is the polynomial zero
 --   binary_one    the number 1 is the polynomial one
 --   binary_xor    exclusive or adds polynomials
@@ -16,7 +15,7 @@ use Rattle.std.proofs.Common.{sym, ap, ap₂, subst, ◌∙◌, inl, inr, pow-su
 use Rattle.std.proofs.Math.Nat as nat
 use Rattle.std.proofs.Math.Decide.{dec_le}
 use Rattle.std.proofs.lemmas.Nat.{xor_shr, xor_mod}
-use Rattle.std.proofs.lemmas.Bool.Decides.{eqb_tells}
+use Rattle.std.proofs.lemmas.Bool.Decides.{eqb_tells, nat_tests}
 use Rattle.algebra.proofs.Ring.{one_mul}
 use Rattle.polynomials.specs.Polynomial.{Polynomial, size, null, add_power, drop_power, constant, plus, minus, times}
 use Rattle.polynomials.proofs.Coefficients.{same_coefficients, null_coefficient, drop_power_coefficient, plus_coefficient, minus_coefficient}
@@ -25,10 +24,6 @@ use Rattle.polynomials.proofs.Powers.{variable, powers, variable_times}
 use Rattle.polynomials.proofs.Sizes.{at_most, size_null, drop_power_size}
 use Rattle.bit_polynomials.specs.Two.{two, differ}
 use Rattle.bit_polynomials.specs.Binary.{odd, bit, binary, below_power, bits_end}
-
-pub not_false : (x : Bool) → (x ≢ false) → x ≡ true
-not_false true h = refl
-not_false false h = absurd (h refl)
 
 binary_coefficient : (n k : ℕ) → (binary n).coefficient k ≡ bit n k
 unfolding binary
@@ -102,13 +97,7 @@ binary_shift (suc s) n =
     twice m k e = let d : k ≡ m * 2 + 0 = omega arith in ap binary d ∙ binary_digit false m ∙ sym (variable_times two (binary m))
 
 same_parity : (a b : ℕ) → odd a ≡ odd b → a % 2 ≡ b % 2
-same_parity a b h = by (parity a) (parity b)
-  where
-    by : (a % 2 ≡ 0) ⊎ (a % 2 ≡ 1) → (b % 2 ≡ 0) ⊎ (b % 2 ≡ 1) → a % 2 ≡ b % 2
-    by (inl d) (inl e) = d ∙ sym e
-    by (inl d) (inr e) = absurd (two.one_not_zero (sym (ap (λ x. nat_eq x 1) e) ∙ sym h ∙ ap (λ x. nat_eq x 1) d))
-    by (inr d) (inl e) = absurd (two.one_not_zero (sym (ap (λ x. nat_eq x 1) d) ∙ h ∙ ap (λ x. nat_eq x 1) e))
-    by (inr d) (inr e) = d ∙ sym e
+same_parity a b h = grind (arith, nat_tests)
 
 once_below : (m a b : ℕ) → a < 2 ^ m → b < 2 ^ m → binary a ≡ binary b → a ≡ b
 once_below zero a b l h e = omega arith

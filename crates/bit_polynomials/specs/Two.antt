@@ -1,14 +1,13 @@
 -- The field of two: false is zero, true is one.
 --
---   differ          the sum of two members: whether they are not the same
---   two_ring        the ring of the two members
---   two_laws        its laws, by cases
---   true_not_false  one is not zero
---   same            equality is decidable
---   own_inverse     one is its own inverse
---   two             the field
-use Rattle.std.specs.Prelude.{◌≡◌, Bool, true, false, not, ◌&&◌, T, ◌≢◌, refl}
-use Rattle.std.proofs.Common.{subst}
+--   differ       the sum of two members: whether they are not the same
+--   two_ring     the ring of the two members
+--   two_laws     its laws, by cases
+--   own_inverse  one is its own inverse
+--   two          the field
+use Rattle.std.specs.Prelude.{◌≡◌, Bool, true, false, not, ◌&&◌, ◌≢◌, refl}
+use Rattle.std.proofs.Math.Bool.{Bool-discrete}
+use Rattle.std.proofs.lemmas.Bool.{true≢false}
 use Rattle.algebra.specs.Ring.{Ring, RingLaws}
 use Rattle.algebra.specs.Field.{Field}
 
@@ -31,18 +30,9 @@ two_laws = record {
   mul_add = elim [ true ↦ λ y z. refl | false ↦ λ y z. refl ];
 }
 
-pub true_not_false : true ≡ false → ⊥
-true_not_false e = subst T e tt
-
-pub same : (x y : Bool) → Dec (x ≡ y)
-same true true = yes refl
-same true false = no true_not_false
-same false true = no (λ e. subst (λ b. T (not b)) e tt)
-same false false = yes refl
-
 pub own_inverse : (x : Bool) → (x ≢ false) → x && x ≡ true
 own_inverse true h = refl
 own_inverse false h = absurd (h refl)
 
 abbrev pub two : Field Bool
-two = record { ring = two_ring; laws = two_laws; inverse = λ x. x; one_not_zero = true_not_false; mul_inverse = own_inverse; same = same }
+two = record { ring = two_ring; laws = two_laws; inverse = λ x. x; one_not_zero = true≢false; mul_inverse = own_inverse; same = Bool-discrete }

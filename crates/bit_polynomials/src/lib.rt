@@ -1,8 +1,8 @@
 // Polynomials over the field of two of degree at most 31.
 #![tactic(auto)]
 
-ghost use Rattle.std.specs.Prelude.{◌≡◌};
-ghost use Rattle.kinds.specs.Outcomes.{Becomes};
+ghost use Rattle.std.specs.Prelude.{◌≡◌, IfOk};
+ghost use Rattle.kinds.specs.Outcomes.{Becomes, Makes};
 ghost use Rattle.bit_polynomials.specs.Binary.{binary};
 ghost use Rattle.bit_polynomials.specs.Meaning.{bit_polynomials, meaning};
 ghost use Rattle.polynomials.proofs.Laws.{polynomial_laws};
@@ -11,7 +11,7 @@ ghost use Rattle.polynomials.proofs.Sizes.{polynomial_domain};
 ghost use Rattle.bit_polynomials.specs.Laws.{range_laws, size_laws, division_laws, normal_laws};
 
 use kinds::{ElementFault, Euclid, Ring, Sums};
-use words::{add, length, long_division, multiply, one, same, zero};
+use words::{add, length, long_division, multiply, one, zero};
 
 mod sum;
 mod words;
@@ -35,22 +35,36 @@ impl BitPolynomial {
         self.bits
     }
 
-    // The element means the polynomial of these bits.
-    fn put(&mut self, bits: u32)
-        ensures { meaning self.new ≡ binary bits }
-    {
-        *self = BitPolynomial { bits };
-    }
-
     // The element means the polynomial of these bits, or Range is refused.
     pub fn set(&mut self, bits: u64) -> Result<(), ElementFault>
         ensures { Becomes bit_polynomials (binary bits) self.old self.new result }
     {
+        *self = BitPolynomial::try_from(bits)?;
+        Ok(())
+    }
+}
+
+// The element that means the polynomial of these bits.
+impl From<u32> for BitPolynomial {
+    ghost from_gives = { λ bits x. (x.bits ≡ bits) × (meaning x ≡ binary bits) };
+
+    fn from(bits: u32) -> BitPolynomial {
+        BitPolynomial { bits }
+    }
+}
+
+// The element that means the polynomial of these bits, or Range is refused.
+impl TryFrom<u64> for BitPolynomial {
+    type Error = ElementFault;
+
+    ghost try_from_gives = { λ bits r. Makes bit_polynomials (binary bits) r × IfOk r (λ x. x.bits ≡ bits) };
+
+    #[tactic(auto, using(crate::specs::MeaningLemmas::word_fits))]
+    fn try_from(bits: u64) -> Result<BitPolynomial, ElementFault> {
         if bits > LARGEST {
             return Err(ElementFault::Range);
         }
-        self.put(bits as u32);
-        Ok(())
+        Ok(BitPolynomial::from(bits as u32))
     }
 }
 
@@ -72,15 +86,11 @@ impl Ring for BitPolynomial {
     ghost normal = { normal_laws };
 
     fn set_zero(&mut self) {
-        self.put(zero());
+        *self = BitPolynomial::from(zero());
     }
 
     fn set_one(&mut self) {
-        self.put(one());
-    }
-
-    fn copy_from(&mut self, from: &BitPolynomial) {
-        self.put(from.get());
+        *self = BitPolynomial::from(one());
     }
 
     fn add_mul(&mut self, q: &BitPolynomial, y: &BitPolynomial) -> Result<(), ElementFault> {
@@ -94,8 +104,9 @@ impl Ring for BitPolynomial {
         self.set(difference)
     }
 
+    #[tactic(auto, using(crate::specs::BinaryLemmas::binary_once))]
     fn equals(&self, other: &BitPolynomial) -> bool {
-        same(self.get() as u64, other.get() as u64)
+        self.get() == other.get()
     }
 }
 
@@ -116,8 +127,9 @@ impl Sums<BitPolynomial> for BitPolynomialSum {
         Ok(())
     }
 
+    #[tactic(auto, using(crate::specs::BinaryLemmas::binary_once))]
     fn equals(&self, other: &BitPolynomialSum) -> bool {
-        same(self.total, other.total)
+        self.total == other.total
     }
 
     fn store(&self, out: &mut BitPolynomial) -> Result<(), ElementFault> {
@@ -140,14 +152,14 @@ impl Euclid for BitPolynomial {
             return Err(ElementFault::ZeroDivisor);
         }
         let (q, r) = long_division(self.get(), b.get());
-        quotient.put(q);
-        remainder.put(r);
+        *quotient = BitPolynomial::from(q);
+        *remainder = BitPolynomial::from(r);
         Ok(())
     }
 
     // Every polynomial is normal: one is the only unit.
     fn normalise(&self, unit: &mut BitPolynomial, inverse: &mut BitPolynomial) {
-        unit.put(one());
-        inverse.put(one());
+        *unit = BitPolynomial::from(one());
+        *inverse = BitPolynomial::from(one());
     }
 }

@@ -1,10 +1,11 @@
 // Arithmetic of polynomials over the field of two that are held in words.
-ghost use Rattle.std.specs.Prelude.{◌≡◌, ◌≤◌, true, Decides, ◌≢◌};
+ghost use Rattle.std.specs.Prelude.{◌≡◌, ◌≤◌, true, ◌≢◌};
 ghost use Rattle.polynomials.specs.Polynomial.{Polynomial, size, null, constant, plus, minus, times, quotient, remainder, unit, inverse};
 ghost use Rattle.bit_polynomials.specs.Two.{two};
 ghost use Rattle.bit_polynomials.specs.Binary.{binary};
 
 // The zero polynomial.
+#[tactic(auto, using(crate::specs::BinaryLemmas::binary_zero))]
 pub(crate) fn zero() -> u32
     ensures { binary result ≡ null two }
 {
@@ -12,6 +13,7 @@ pub(crate) fn zero() -> u32
 }
 
 // The polynomial one: the unit that brings each polynomial to its normal form, and the inverse of that unit.
+#[tactic(auto, using(crate::specs::BinaryLemmas::binary_one, crate::specs::MeaningLemmas::unit_one))]
 pub(crate) fn one() -> u32
     ensures value { binary result ≡ constant two true }
     ensures unit { (p : Polynomial two) → binary result ≡ unit two p }
@@ -20,14 +22,8 @@ pub(crate) fn one() -> u32
     1
 }
 
-// Whether two words are the same polynomial.
-pub(crate) fn same(a: u64, b: u64) -> bool
-    ensures { Decides result (binary a ≡ binary b) }
-{
-    a == b
-}
-
 // The sum, which is the difference too: a polynomial is its own opposite.
+#[tactic(auto, using(crate::specs::BinaryLemmas::binary_xor, crate::specs::BinaryLemmas::minus_itself))]
 pub(crate) fn add(a: u64, b: u64) -> u64
     ensures sum { binary result ≡ plus two (binary a) (binary b) }
     ensures difference { binary result ≡ plus two (binary a) (minus two (binary b)) }
@@ -36,6 +32,7 @@ pub(crate) fn add(a: u64, b: u64) -> u64
 }
 
 // The size of a polynomial: 0 for zero, else its degree + 1.
+#[tactic(auto, using(crate::proofs::Turns::length_is))]
 pub(crate) fn length(a: u32) -> u32
     ensures value { result ≡ size two (binary a) }
     ensures bound { result ≤ 32 }
@@ -44,6 +41,7 @@ pub(crate) fn length(a: u32) -> u32
 }
 
 // The product: for each power of a, from the highest down, b is added, moved up by it.
+#[tactic(auto, using(crate::proofs::Turns::product_turns))]
 pub(crate) fn multiply(a: u32, b: u32) -> u64
     ensures { binary result ≡ times two (binary a) (binary b) }
 {
@@ -58,6 +56,7 @@ pub(crate) fn multiply(a: u32, b: u32) -> u64
 }
 
 // Quotient and remainder: b, moved up to the highest power of what is left of a, is taken away from it.
+#[tactic(auto, using(crate::proofs::Turns::division_turns))]
 pub(crate) fn long_division(a: u32, b: u32) -> (u32, u32)
     requires divisor { binary b ≢ null two }
     ensures quotient { binary result.0 ≡ quotient two (binary a) (binary b) }

@@ -2,11 +2,11 @@
 --
 --   remainder_within  the remainder, where the divisor is within it
 --   quotient_within   the quotient, where the dividend is within it
-use Rattle.std.specs.Prelude.{◌≡◌, ℕ, zero, suc, ◌+◌, ◌*◌, ◌<◌, ◌≤◌, ℤ, pos, ◌-ℤ◌, ◌*ℤ◌, ◌<ℤ◌, unsigned_abs, refl}
+use Rattle.std.specs.Prelude.{◌≡◌, ◌≢◌, ℕ, zero, suc, ◌+◌, ◌*◌, ◌<◌, ◌≤◌, ℤ, pos, ◌-ℤ◌, ◌*ℤ◌, ◌<ℤ◌, unsigned_abs, refl}
 use Rattle.std.proofs.Common.{sym, ap, subst, ◌∙◌, arith}
 use Rattle.std.proofs.Math.Nat as nat
-use Rattle.std.proofs.lemmas.Int.{ints}
-use Rattle.algebra.proofs.Magnitudes.{abs_mul, at_most, root_le}
+use Rattle.std.proofs.lemmas.Int.{ints, unsigned_abs-mul}
+use Rattle.algebra.proofs.Magnitudes.{at_most, root_le}
 use Rattle.gaussian_integers.specs.Gaussian.{Gaussian, gauss, gaussian, conjugate, norm, size, nearest, quotient, remainder, Within}
 use Rattle.gaussian_integers.specs.Members.{gaussian_laws, mul_conjugate}
 use Rattle.gaussian_integers.specs.Norms.{norm_size, abs_norm, size_mul, size_conjugate, size_positive, norm_positive, size_within}
@@ -18,7 +18,7 @@ use Rattle.gaussian_integers.specs.Units.{unit_within}
 half_within : (l : ℕ) (r b : Gaussian) → size r + size r ≤ size b → Within l b → Within l r
 half_within l r b p f = (root_le _ l (omega (arith, size_within l b f)), root_le _ l (omega (arith, size_within l b f)))
 
-pub remainder_within : (l : ℕ) (a b : Gaussian) → (b ≡ gaussian.zero → ⊥) → Within l b → Within l (remainder a b)
+pub remainder_within : (l : ℕ) (a b : Gaussian) → (b ≢ gaussian.zero) → Within l b → Within l (remainder a b)
 remainder_within l a b h f = half_within l (remainder a b) b (half a b h) f
 
 near : (x m : ℤ) (n : ℕ) → unsigned_abs (x -ℤ m) + unsigned_abs (x -ℤ m) ≤ n → unsigned_abs m + unsigned_abs m ≤ unsigned_abs x + unsigned_abs x + n
@@ -30,7 +30,7 @@ rounded_le q l n x h f g = at_most q l (λ p. omega (arith, nat.mul-le-mul {n₁
 
 nearest_within : (x n : ℤ) (l : ℕ) → pos 0 <ℤ n → 0 < unsigned_abs n → unsigned_abs x ≤ l * unsigned_abs n → unsigned_abs (nearest x n) ≤ l
 nearest_within x n l h k g = rounded_le (unsigned_abs (nearest x n)) l (unsigned_abs n) (unsigned_abs x) k
-    (rw (← abs_mul (nearest x n) n) (near x (nearest x n *ℤ n) (unsigned_abs n) (nearest_error x n h))) g
+    (rw (← unsigned_abs-mul (nearest x n) n) (near x (nearest x n *ℤ n) (unsigned_abs n) (nearest_error x n h))) g
 
 square_mul : (l n : ℕ) → l * n * (l * n) ≡ l * l * (n * n)
 square_mul l n = nat.mul_assoc l n (l * n) ∙ ap (λ t. l * t) (sym (nat.mul_assoc n l n) ∙ ap (λ t. t * n) (nat.mul_comm n l) ∙ nat.mul_assoc l n n) ∙ sym (nat.mul_assoc l l (n * n))
@@ -54,7 +54,7 @@ product_within l (suc (suc n)) a b e h f = (product_le l (size a) (suc (suc n)) 
     total : size (gaussian.mul a (conjugate b)) ≡ size a * suc (suc n)
     total = size_mul a (conjugate b) ∙ ap (λ t. size a * t) (size_conjugate b ∙ e)
 
-pub quotient_within : (l : ℕ) (a b : Gaussian) → (b ≡ gaussian.zero → ⊥) → Within l a → Within l (quotient a b)
+pub quotient_within : (l : ℕ) (a b : Gaussian) → (b ≢ gaussian.zero) → Within l a → Within l (quotient a b)
 quotient_within l a b h f =
     let p = norm_positive b h in
     let k : 0 < unsigned_abs (norm b) = rw (abs_norm b) (size_positive b h) in

@@ -5,7 +5,7 @@
 --   smaller         so it is smaller than the divisor
 --   same_remainder  members that differ by a multiple have one remainder
 --   remainder_same  and only those
-use Rattle.std.specs.Prelude.{◌≡◌, ℕ, suc, ◌+◌, ◌*◌, ◌<◌, ◌≤◌, [], ◌∷◌, ◌-ℤ◌, ◌*ℤ◌, unsigned_abs, refl}
+use Rattle.std.specs.Prelude.{◌≡◌, ◌≢◌, ℕ, suc, ◌+◌, ◌*◌, ◌<◌, ◌≤◌, [], ◌∷◌, ◌-ℤ◌, ◌*ℤ◌, unsigned_abs, refl}
 use Rattle.std.proofs.Common.{sym, ap, ◌∙◌, arith}
 use Rattle.std.proofs.Math.Nat as nat
 use Rattle.algebra.specs.Ring.{sub, Divides}
@@ -51,18 +51,18 @@ half_of_squares : (r n e f : ℕ) → 0 < n → r * n ≡ e * e + f * f → e + 
 half_of_squares r n e f h s p q = at_most (r + r) n (λ l. omega (arith, four_squares e n p, four_squares f n q, nat.mul-le-mul {n₁ = suc n} {m₁ = n} {n₂ = r + r} {m₂ = n} l (omega arith), nat.add-mul r r n, nat.suc-mul n n))
 
 -- the remainder has at most half the size of the divisor
-pub half : (a b : Gaussian) → (b ≡ gaussian.zero → ⊥) → size (remainder a b) + size (remainder a b) ≤ size b
+pub half : (a b : Gaussian) → (b ≢ gaussian.zero) → size (remainder a b) + size (remainder a b) ≤ size b
 half a b h =
     half_of_squares (size (remainder a b)) (size b) (unsigned_abs (off a b (quotient a b)).re) (unsigned_abs (off a b (quotient a b)).im) (size_positive b h)
     (size_remainder a b (quotient a b))
     (rw (← abs_norm b) (nearest_error (gaussian.mul a (conjugate b)).re (norm b) (norm_positive b h)))
     (rw (← abs_norm b) (nearest_error (gaussian.mul a (conjugate b)).im (norm b) (norm_positive b h)))
 
-pub smaller : (a b : Gaussian) → (b ≡ gaussian.zero → ⊥) → size (remainder a b) < size b
+pub smaller : (a b : Gaussian) → (b ≢ gaussian.zero) → size (remainder a b) < size b
 smaller a b h = omega (arith, half a b h, size_positive b h)
 
 -- k times b added to the dividend adds k to the quotient
-quotient_shift : (a k b : Gaussian) → (b ≡ gaussian.zero → ⊥) → quotient (gaussian.add a (gaussian.mul k b)) b ≡ gaussian.add (quotient a b) k
+quotient_shift : (a k b : Gaussian) → (b ≢ gaussian.zero) → quotient (gaussian.add a (gaussian.mul k b)) b ≡ gaussian.add (quotient a b) k
 quotient_shift a k b h = parts_equal
     (ap (λ z. nearest z.re (norm b)) spread ∙ nearest_shift (gaussian.mul a (conjugate b)).re (norm b) k.re (norm_positive b h))
     (ap (λ z. nearest z.im (norm b)) spread ∙ nearest_shift (gaussian.mul a (conjugate b)).im (norm b) k.im (norm_positive b h))
@@ -74,13 +74,13 @@ quotient_shift a k b h = parts_equal
     spread = apart (gaussian.mul k b) (conjugate b) ∙ ap (gaussian.add (gaussian.mul a (conjugate b))) (scaled k b)
 
 -- and leaves the remainder
-remainder_shift : (a k b : Gaussian) → (b ≡ gaussian.zero → ⊥) → remainder (gaussian.add a (gaussian.mul k b)) b ≡ remainder a b
+remainder_shift : (a k b : Gaussian) → (b ≢ gaussian.zero) → remainder (gaussian.add a (gaussian.mul k b)) b ≡ remainder a b
 remainder_shift a k b h = ap (λ q. sub gaussian (gaussian.add a (gaussian.mul k b)) (gaussian.mul q b)) (quotient_shift a k b h) ∙ cancelled (quotient a b)
   where
     cancelled : (q : Gaussian) → sub gaussian (gaussian.add a (gaussian.mul k b)) (gaussian.mul (gaussian.add q k) b) ≡ sub gaussian a (gaussian.mul q b)
     cancelled q = ring gaussian_laws (a ∷ k ∷ b ∷ q ∷ []) (search reify depth 20) refl
 
-pub same_remainder : (a b c : Gaussian) → (b ≡ gaussian.zero → ⊥) → Divides gaussian b (sub gaussian a c) → remainder a b ≡ remainder c b
+pub same_remainder : (a b c : Gaussian) → (b ≢ gaussian.zero) → Divides gaussian b (sub gaussian a c) → remainder a b ≡ remainder c b
 same_remainder a b c h (k, e) = ap (λ z. remainder z b) (again ∙ ap (gaussian.add c) e) ∙ remainder_shift c k b h
   where
     again : a ≡ gaussian.add c (sub gaussian a c)

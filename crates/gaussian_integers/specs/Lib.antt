@@ -1,4 +1,5 @@
 pub mod Gaussian
+pub mod Parts
 pub mod Meaning
 pub mod Members
 pub mod Norms

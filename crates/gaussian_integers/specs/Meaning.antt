@@ -1,18 +1,14 @@
 -- The Gaussian integers as a kind.
 --
---   value      the Gaussian integer of two words
 --   meaning    the member that an element means: its parts, or zero where one is out of range
 --   Fits       both parts are at most 268435455 in magnitude
 --   gaussians  the model of the kind
 use Rattle.std.specs.Prelude.{cond, ◌&&◌, nat_le, unsigned_abs}
 use Rattle.kinds.specs.Model.{Model}
 use Rattle.gaussian_integers.specs.declared.GaussianInteger.{GaussianInteger}
-use Rattle.gaussian_integers.specs.declared.parts.Parts.{Parts}
 use Rattle.gaussian_integers.specs.declared.sum.GaussianSum.{GaussianSum}
 use Rattle.gaussian_integers.specs.Gaussian.{Gaussian, gauss, gaussian, size, quotient, remainder, Within, Normal, unit, inverse}
-
-abbrev pub value : Parts → Gaussian
-value p = gauss p.re p.im
+use Rattle.gaussian_integers.specs.Parts.{value}
 
 abbrev pub meaning : GaussianInteger → Gaussian
 meaning e = cond (nat_le (unsigned_abs e.re) 268435455 && nat_le (unsigned_abs e.im) 268435455) (gauss e.re e.im) gaussian.zero
@@ -26,7 +22,7 @@ gaussians = record {
   ring = gaussian;
   Fits = Fits;
   mean = meaning;
-  total = λ s. gauss s.re s.im;
+  total = λ s. value s.total;
   count = λ s. s.count;
   size = size;
   quotient = quotient;

@@ -1,15 +1,17 @@
 // The Gaussian integers with parts of magnitude at most 268,435,455.
 #![tactic(auto)]
 
-ghost use Rattle.std.specs.Prelude.{◌≡◌};
-ghost use Rattle.kinds.specs.Outcomes.{Becomes};
-ghost use Rattle.gaussian_integers.specs.Gaussian.{gaussian, Within};
-ghost use Rattle.gaussian_integers.specs.Meaning.{gaussians, meaning, value, Fits};
+ghost use Rattle.std.specs.Prelude.{◌≡◌, IfOk};
+ghost use Rattle.kinds.specs.Outcomes.{Becomes, Makes};
+ghost use Rattle.gaussian_integers.specs.Gaussian.{gauss, gaussian, Within};
+ghost use Rattle.gaussian_integers.specs.Meaning.{gaussians, meaning, Fits};
+ghost use Rattle.gaussian_integers.specs.Parts.{value};
 ghost use Rattle.gaussian_integers.specs.Members.{gaussian_laws};
 ghost use Rattle.gaussian_integers.specs.Norms.{gaussian_domain};
 ghost use Rattle.gaussian_integers.specs.Laws.{range_laws, size_laws, division_laws, normal_laws};
 
 use kinds::{ElementFault, Euclid, Ring, Sums};
+use parts::FittingParts;
 
 mod parts;
 mod sum;
@@ -28,38 +30,62 @@ pub struct GaussianInteger {
 }
 
 impl GaussianInteger {
-    // The Gaussian integer that the element means.
-    pub fn get(&self) -> Parts
-        ensures value { value result ≡ meaning self.now }
-        ensures bound { Fits (value result) }
+    // The Gaussian integer that the element means: it fits.
+    fn fitting(&self) -> FittingParts
+        ensures { value result.parts ≡ meaning self.now }
     {
-        if -LIMIT <= self.re && self.re <= LIMIT && -LIMIT <= self.im && self.im <= LIMIT {
+        let fits = -LIMIT..=LIMIT;
+        let parts = if fits.contains(&self.re) && fits.contains(&self.im) {
             Parts {
                 re: self.re as i64,
                 im: self.im as i64,
             }
         } else {
             Parts { re: 0, im: 0 }
-        }
+        };
+        FittingParts { parts }
     }
 
-    // The element means z, which fits.
-    fn put(&mut self, z: Parts)
-        requires fits { Fits (value z) }
-        ensures { meaning self.new ≡ value z }
+    // The Gaussian integer that the element means.
+    pub fn get(&self) -> Parts
+        ensures value { value result ≡ meaning self.now }
+        ensures bound { Fits (value result) }
     {
-        self.re = z.re as i32;
-        self.im = z.im as i32;
+        self.fitting().parts
     }
 
     // The element means z, or Range is refused.
     pub fn set(&mut self, z: Parts) -> Result<(), ElementFault>
         ensures { Becomes gaussians (value z) self.old self.new result }
     {
+        *self = GaussianInteger::try_from(z)?;
+        Ok(())
+    }
+}
+
+// The element whose stored parts are these and which means them.
+impl From<FittingParts> for GaussianInteger {
+    ghost from_gives = { λ z x. (meaning x ≡ value z.parts) × (gauss x.re x.im ≡ value z.parts) };
+
+    fn from(z: FittingParts) -> GaussianInteger {
+        GaussianInteger {
+            re: z.parts.re as i32,
+            im: z.parts.im as i32,
+        }
+    }
+}
+
+// The element whose stored parts are these and which means them, or Range is refused.
+impl TryFrom<Parts> for GaussianInteger {
+    type Error = ElementFault;
+
+    ghost try_from_gives = { λ z r. Makes gaussians (value z) r × IfOk r (λ x. gauss x.re x.im ≡ value z) };
+
+    fn try_from(parts: Parts) -> Result<GaussianInteger, ElementFault> {
         let limit = LIMIT as i64;
-        if -limit <= z.re && z.re <= limit && -limit <= z.im && z.im <= limit {
-            self.put(z);
-            Ok(())
+        let fits = -limit..=limit;
+        if fits.contains(&parts.re) && fits.contains(&parts.im) {
+            Ok(GaussianInteger::from(FittingParts { parts }))
         } else {
             Err(ElementFault::Range)
         }
@@ -71,7 +97,7 @@ fn multiply(a: &GaussianInteger, b: &GaussianInteger) -> Parts
     ensures value { value result ≡ gaussian.mul (meaning a.now) (meaning b.now) }
     ensures bound { Within 144115187002114050 (value result) }
 {
-    a.get().times(b.get())
+    a.fitting().times(b.fitting())
 }
 
 impl Ring for GaussianInteger {
@@ -101,11 +127,6 @@ impl Ring for GaussianInteger {
         self.im = 0;
     }
 
-    fn copy_from(&mut self, from: &GaussianInteger) {
-        self.re = from.re;
-        self.im = from.im;
-    }
-
     fn add_mul(&mut self, q: &GaussianInteger, y: &GaussianInteger) -> Result<(), ElementFault> {
         let z = self.get().plus(multiply(q, y));
         self.set(z)
@@ -121,23 +142,10 @@ impl Ring for GaussianInteger {
     }
 }
 
-impl GaussianSum {
-    // The Gaussian integer that the sum means.
-    fn total(&self) -> Parts
-        ensures { value result ≡ gaussians.total self.now }
-    {
-        Parts {
-            re: self.re,
-            im: self.im,
-        }
-    }
-}
-
 impl Sums<GaussianInteger> for GaussianSum {
     fn new() -> GaussianSum {
         GaussianSum {
-            re: 0,
-            im: 0,
+            total: Parts { re: 0, im: 0 },
             count: 0,
         }
     }
@@ -146,27 +154,26 @@ impl Sums<GaussianInteger> for GaussianSum {
         if self.count >= 32 {
             return Err(ElementFault::SumFull);
         }
-        let total = self.total().plus(multiply(a, b));
+        let total = self.total.plus(multiply(a, b));
         *self = GaussianSum {
-            re: total.re,
-            im: total.im,
+            total,
             count: self.count + 1,
         };
         Ok(())
     }
 
     fn equals(&self, other: &GaussianSum) -> bool {
-        self.total() == other.total()
+        self.total == other.total
     }
 
     fn store(&self, out: &mut GaussianInteger) -> Result<(), ElementFault> {
-        out.set(self.total())
+        out.set(self.total)
     }
 }
 
 impl Euclid for GaussianInteger {
     fn size(&self) -> u64 {
-        self.get().norm().unsigned_abs()
+        self.fitting().norm().unsigned_abs()
     }
 
     // Each part of the quotient is rounded to the nearest whole number, halves upward.
@@ -176,20 +183,20 @@ impl Euclid for GaussianInteger {
         quotient: &mut GaussianInteger,
         remainder: &mut GaussianInteger,
     ) -> Result<(), ElementFault> {
-        let x = self.get();
-        let y = b.get();
-        if y == (Parts { re: 0, im: 0 }) {
+        let x = self.fitting();
+        let y = b.fitting();
+        if y.parts == (Parts { re: 0, im: 0 }) {
             return Err(ElementFault::ZeroDivisor);
         }
         let q = x.quotient(y);
-        quotient.put(q);
-        remainder.put(x.remainder(y, q));
+        *quotient = GaussianInteger::from(q);
+        *remainder = GaussianInteger::from(x.remainder(y, q));
         Ok(())
     }
 
     fn normalise(&self, unit: &mut GaussianInteger, inverse: &mut GaussianInteger) {
-        let u = self.get().unit();
-        unit.put(u);
-        inverse.put(u.conjugate());
+        let u = self.fitting().unit();
+        *unit = GaussianInteger::from(u);
+        *inverse = GaussianInteger::from(u.conjugate());
     }
 }

@@ -1,8 +1,9 @@
 // Gaussian integers in 64-bit words.
-ghost use Rattle.std.specs.Prelude.{◌≡◌, ◌≤◌, ℤ, pos, ◌+ℤ◌, ◌-ℤ◌, ◌*ℤ◌, ◌<ℤ◌, unsigned_abs};
+ghost use Rattle.std.specs.Prelude.{◌≡◌, ◌≢◌, ◌≤◌, pos, ◌*ℤ◌, ◌<ℤ◌, unsigned_abs};
 ghost use Rattle.algebra.specs.Ring.{sub};
 ghost use Rattle.gaussian_integers.specs.Gaussian.{gaussian, conjugate, norm, nearest, rounded, quotient, remainder, unit, Within};
-ghost use Rattle.gaussian_integers.specs.Meaning.{value, Fits};
+ghost use Rattle.gaussian_integers.specs.Meaning.{Fits};
+ghost use Rattle.gaussian_integers.specs.Parts.{value};
 
 // The real and the imaginary part of a Gaussian integer.
 #[derive(Clone, Copy, PartialEq, Eq, Debug)]
@@ -11,7 +12,15 @@ pub struct Parts {
     pub im: i64,
 }
 
-// The product of two parts that fit.
+// Parts that fit an element.
+#[derive(Clone, Copy)]
+pub(crate) struct FittingParts {
+    pub(crate) parts: Parts,
+    ghost fits: { Fits (value parts) },
+}
+
+// The product of two parts that fit. Four bare `*` in one expression do not prove in `times`.
+#[tactic(auto, using(algebra::proofs::Magnitudes::abs_mul_le))]
 fn product(x: i64, y: i64) -> i64
     requires left { unsigned_abs x ≤ 268435455 }
     requires right { unsigned_abs y ≤ 268435455 }
@@ -19,24 +28,6 @@ fn product(x: i64, y: i64) -> i64
     ensures bound { unsigned_abs result ≤ 72057593501057025 }
 {
     x * y
-}
-
-// The sum of two words below 2^62.
-fn sum(x: i64, y: i64) -> i64
-    requires left { unsigned_abs x ≤ 4611686018427387903 }
-    requires right { unsigned_abs y ≤ 4611686018427387903 }
-    ensures { result ≡ x +ℤ y }
-{
-    x + y
-}
-
-// The difference of two words below 2^62.
-fn difference(x: i64, y: i64) -> i64
-    requires left { unsigned_abs x ≤ 4611686018427387903 }
-    requires right { unsigned_abs y ≤ 4611686018427387903 }
-    ensures { result ≡ x -ℤ y }
-{
-    x - y
 }
 
 // x / n to the nearest whole number, halves upward.
@@ -50,40 +41,6 @@ fn nearest(x: i64, n: i64) -> i64
 }
 
 impl Parts {
-    // The sum of the squared parts.
-    pub(crate) fn norm(self) -> i64
-        requires fits { Fits (value self) }
-        ensures value { result ≡ norm (value self) }
-        ensures bound { unsigned_abs result ≤ 144115187002114050 }
-    {
-        sum(product(self.re, self.re), product(self.im, self.im))
-    }
-
-    // The same real part, and the opposite imaginary part.
-    pub(crate) fn conjugate(self) -> Parts
-        requires fits { Fits (value self) }
-        ensures value { value result ≡ conjugate (value self) }
-        ensures bound { Fits (value result) }
-    {
-        Parts {
-            re: self.re,
-            im: -self.im,
-        }
-    }
-
-    // The product of two that fit.
-    pub(crate) fn times(self, b: Parts) -> Parts
-        requires left { Fits (value self) }
-        requires right { Fits (value b) }
-        ensures value { value result ≡ gaussian.mul (value self) (value b) }
-        ensures bound { Within 144115187002114050 (value result) }
-    {
-        Parts {
-            re: difference(product(self.re, b.re), product(self.im, b.im)),
-            im: sum(product(self.re, b.im), product(self.im, b.re)),
-        }
-    }
-
     // The sum of two with parts below 2^62.
     pub(crate) fn plus(self, b: Parts) -> Parts
         requires left { Within 4611686018427387903 (value self) }
@@ -91,8 +48,8 @@ impl Parts {
         ensures { value result ≡ gaussian.add (value self) (value b) }
     {
         Parts {
-            re: sum(self.re, b.re),
-            im: sum(self.im, b.im),
+            re: self.re + b.re,
+            im: self.im + b.im,
         }
     }
 
@@ -103,8 +60,8 @@ impl Parts {
         ensures { value result ≡ sub gaussian (value self) (value b) }
     {
         Parts {
-            re: difference(self.re, b.re),
-            im: difference(self.im, b.im),
+            re: self.re - b.re,
+            im: self.im - b.im,
         }
     }
 
@@ -120,44 +77,76 @@ impl Parts {
             im: nearest(self.im, n),
         }
     }
+}
+
+impl FittingParts {
+    // The sum of the squared parts.
+    pub(crate) fn norm(self) -> i64
+        ensures value { result ≡ norm (value self.parts) }
+        ensures bound { unsigned_abs result ≤ 144115187002114050 }
+    {
+        let Parts { re, im } = self.parts;
+        product(re, re) + product(im, im)
+    }
+
+    // The same real part, and the opposite imaginary part.
+    pub(crate) fn conjugate(self) -> FittingParts
+        ensures { value result.parts ≡ conjugate (value self.parts) }
+    {
+        let Parts { re, im } = self.parts;
+        FittingParts {
+            parts: Parts { re, im: -im },
+        }
+    }
+
+    // The product.
+    pub(crate) fn times(self, b: FittingParts) -> Parts
+        ensures value { value result ≡ gaussian.mul (value self.parts) (value b.parts) }
+        ensures bound { Within 144115187002114050 (value result) }
+    {
+        let a = self.parts;
+        let b = b.parts;
+        Parts {
+            re: product(a.re, b.re) - product(a.im, b.im),
+            im: product(a.re, b.im) + product(a.im, b.re),
+        }
+    }
 
     // The exact quotient by b, rounded.
-    pub(crate) fn quotient(self, b: Parts) -> Parts
-        requires left { Fits (value self) }
-        requires right { Fits (value b) }
-        requires nonzero { value b ≡ gaussian.zero → ⊥ }
-        ensures value { value result ≡ quotient (value self) (value b) }
-        ensures bound { Fits (value result) }
+    pub(crate) fn quotient(self, b: FittingParts) -> FittingParts
+        requires nonzero { value b.parts ≢ gaussian.zero }
+        ensures { value result.parts ≡ quotient (value self.parts) (value b.parts) }
     {
-        self.times(b.conjugate()).rounded(b.norm())
+        let parts = self.times(b.conjugate()).rounded(b.norm());
+        FittingParts { parts }
     }
 
     // What q, the quotient by b, leaves.
-    pub(crate) fn remainder(self, b: Parts, q: Parts) -> Parts
-        requires left { Fits (value self) }
-        requires right { Fits (value b) }
-        requires nonzero { value b ≡ gaussian.zero → ⊥ }
-        requires fits { Fits (value q) }
-        requires quotient { value q ≡ quotient (value self) (value b) }
-        ensures value { value result ≡ remainder (value self) (value b) }
-        ensures bound { Fits (value result) }
+    pub(crate) fn remainder(self, b: FittingParts, q: FittingParts) -> FittingParts
+        requires nonzero { value b.parts ≢ gaussian.zero }
+        requires quotient { value q.parts ≡ quotient (value self.parts) (value b.parts) }
+        ensures { value result.parts ≡ remainder (value self.parts) (value b.parts) }
     {
-        self.minus(q.times(b))
+        let parts = self.parts.minus(q.times(b));
+        FittingParts { parts }
     }
 
     // The unit that makes it normal.
-    pub(crate) fn unit(self) -> Parts
-        ensures value { value result ≡ unit (value self) }
-        ensures bound { Fits (value result) }
+    pub(crate) fn unit(self) -> FittingParts
+        ensures { value result.parts ≡ unit (value self.parts) }
     {
-        if self.re <= 0 && self.im > 0 {
-            Parts { re: 0, im: -1 }
-        } else if self.re < 0 && self.im <= 0 {
-            Parts { re: -1, im: 0 }
-        } else if self.re >= 0 && self.im < 0 {
-            Parts { re: 0, im: 1 }
+        let Parts { re, im } = self.parts;
+        let (re, im) = if re <= 0 && im > 0 {
+            (0, -1)
+        } else if re < 0 && im <= 0 {
+            (-1, 0)
+        } else if re >= 0 && im < 0 {
+            (0, 1)
         } else {
-            Parts { re: 1, im: 0 }
+            (1, 0)
+        };
+        FittingParts {
+            parts: Parts { re, im },
         }
     }
 }

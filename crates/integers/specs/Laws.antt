@@ -9,12 +9,12 @@ use Rattle.std.proofs.Common.{ap, ◌∙◌, arith}
 use Rattle.std.proofs.Math.Nat as nat
 use Rattle.std.proofs.Math.IntN.{*ℤ-zero}
 use Rattle.std.specs.Int.Signed.{non_neg}
-use Rattle.std.proofs.lemmas.Int.{ints}
+use Rattle.std.proofs.lemmas.Int.{ints, unsigned_abs-mul}
 use Rattle.std.proofs.lemmas.Bool.Decides.{nat_tests}
 use Rattle.kinds.specs.Laws.{RangeLaws, SizeLaws, DivisionLaws, NormalLaws}
 use Rattle.integers.specs.declared.Integer.{Integer}
 use Rattle.integers.specs.Meaning.{integers, meaning, sign}
-use Rattle.algebra.proofs.Magnitudes.{abs_mul, abs_multiple, unit_abs}
+use Rattle.algebra.proofs.Magnitudes.{abs_multiple, unit_abs}
 use Rattle.algebra.proofs.Whole.{one_mul}
 use Rattle.algebra.proofs.WholeDivision.{divides, smaller, abs_quotient, same_remainder, remainder_same}
 
@@ -25,7 +25,7 @@ pub range_laws : RangeLaws integers
 range_laws = record {
   zero_fits = omega arith;
   one_fits = omega arith;
-  unit_fits = λ u a v f. rw (abs_mul u a, unit_abs u v.0 v.1, nat.one-mul) f;
+  unit_fits = λ u a v f. rw (unsigned_abs-mul u a, unit_abs u v.0 v.1, nat.one-mul) f;
   mean_fits = mean_fits;
   held = λ a f. (record { value = a }, grind (arith, nat_tests));
 }
@@ -56,7 +56,7 @@ sign_normal : (a : ℤ) → T (non_neg (sign a *ℤ a))
 sign_normal (pos n) = tt
 sign_normal (negsuc n) = tt
 
-below_zero : (k : ℕ) → 0 < k → T (non_neg (neg_ℤ (pos k))) → ⊥
+below_zero : (k : ℕ) → 0 < k → ¬ T (non_neg (neg_ℤ (pos k)))
 below_zero zero h t = omega arith
 below_zero (suc k) h t = t
 

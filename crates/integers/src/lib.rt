@@ -1,8 +1,8 @@
 // The integers of magnitude at most 536,870,911.
 #![tactic(auto)]
 
-ghost use Rattle.std.specs.Prelude.{◌≡◌, ◌≤◌, ℤ, ◌*ℤ◌, unsigned_abs};
-ghost use Rattle.kinds.specs.Outcomes.{Becomes};
+ghost use Rattle.std.specs.Prelude.{◌≡◌, ◌≤◌, ℤ, ◌*ℤ◌, unsigned_abs, IfOk};
+ghost use Rattle.kinds.specs.Outcomes.{Becomes, Makes};
 ghost use Rattle.integers.specs.Meaning.{integers, meaning};
 ghost use Rattle.algebra.proofs.Whole.{whole_laws, whole_domain};
 ghost use Rattle.integers.specs.Laws.{range_laws, size_laws, division_laws, normal_laws};
@@ -28,7 +28,7 @@ impl Integer {
         ensures value { result ≡ meaning self.now }
         ensures bound { unsigned_abs result ≤ 536870911 }
     {
-        if -LIMIT <= self.value && self.value <= LIMIT {
+        if (-LIMIT..=LIMIT).contains(&self.value) {
             self.value as i64
         } else {
             0
@@ -39,9 +39,21 @@ impl Integer {
     pub fn set(&mut self, z: i64) -> Result<(), ElementFault>
         ensures { Becomes integers z self.old self.new result }
     {
-        if -(LIMIT as i64) <= z && z <= LIMIT as i64 {
-            self.value = z as i32;
-            Ok(())
+        *self = Integer::try_from(z)?;
+        Ok(())
+    }
+}
+
+// The element whose stored value is z and which means z, or Range is refused.
+impl TryFrom<i64> for Integer {
+    type Error = ElementFault;
+
+    ghost try_from_gives = { λ z r. Makes integers z r × IfOk r (λ x. x.value ≡ z) };
+
+    fn try_from(z: i64) -> Result<Integer, ElementFault> {
+        let limit = LIMIT as i64;
+        if (-limit..=limit).contains(&z) {
+            Ok(Integer { value: z as i32 })
         } else {
             Err(ElementFault::Range)
         }
@@ -49,6 +61,7 @@ impl Integer {
 }
 
 // The product of what two elements mean: below 2^58 in magnitude.
+#[tactic(auto, using(algebra::proofs::Magnitudes::abs_mul_le))]
 fn multiply(a: &Integer, b: &Integer) -> i64
     ensures value { result ≡ meaning a.now *ℤ meaning b.now }
     ensures bound { unsigned_abs result ≤ 288230375077969921 }
@@ -79,10 +92,6 @@ impl Ring for Integer {
 
     fn set_one(&mut self) {
         self.value = 1;
-    }
-
-    fn copy_from(&mut self, from: &Integer) {
-        self.value = from.value;
     }
 
     fn add_mul(&mut self, q: &Integer, y: &Integer) -> Result<(), ElementFault> {

@@ -13,7 +13,7 @@ const ALL: u32 = 0xffff_ffff;
 // The 31st power alone.
 const TOP: u32 = 0x8000_0000;
 
-fn bits(bits: u32) -> BitPolynomial
+pub(crate) fn bits(bits: u32) -> BitPolynomial
     ensures { result.bits ≡ bits }
 {
     BitPolynomial { bits }
@@ -37,6 +37,25 @@ fn gets_and_sets(rt: HostRuntime) {
         let mut x = bits(5);
         assert_eq!(rt; x.set(word), answer);
         assert_eq!(rt; x.bits, left);
+    }
+}
+
+// The stored bits of the element made of a word.
+#[test]
+fn converts(rt: HostRuntime) {
+    for stored in [0, 6, TOP, ALL] {
+        assert_eq!(rt; BitPolynomial::from(stored).bits, stored);
+    }
+    let cases = [
+        (0, Ok(0)),
+        (6, Ok(6)),
+        (0xffff_ffff, Ok(ALL)),
+        (0x1_0000_0000, Err(ElementFault::Range)),
+        (0x1_0000_0001, Err(ElementFault::Range)),
+        (u64::MAX, Err(ElementFault::Range)),
+    ];
+    for (word, stored) in cases {
+        assert_eq!(rt; BitPolynomial::try_from(word).map(|x| x.bits), stored);
     }
 }
 

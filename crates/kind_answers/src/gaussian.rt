@@ -7,7 +7,7 @@ use std::test::Fail;
 
 const RANGE: Result<(), ElementFault> = Err(ElementFault::Range);
 
-fn gaussian(parts: (i32, i32)) -> GaussianInteger
+pub(crate) fn gaussian(parts: (i32, i32)) -> GaussianInteger
     ensures re { result.re ≡ parts.0 }
     ensures im { result.im ≡ parts.1 }
 {
@@ -59,6 +59,29 @@ fn sets(rt: HostRuntime) {
         let mut x = gaussian((5, 6));
         assert_eq!(rt; x.set(Parts { re, im }), answer);
         assert_eq!(rt; (x.re, x.im), left);
+    }
+}
+
+// The stored parts of the element made of z.
+#[test]
+fn converts(rt: HostRuntime) {
+    let cases = [
+        ((0, 0), Ok((0, 0))),
+        ((3, -4), Ok((3, -4))),
+        ((268_435_455, -268_435_455), Ok((LIMIT, -LIMIT))),
+        ((-268_435_455, 268_435_455), Ok((-LIMIT, LIMIT))),
+        ((268_435_456, 0), Err(ElementFault::Range)),
+        ((-268_435_456, 0), Err(ElementFault::Range)),
+        ((0, 268_435_456), Err(ElementFault::Range)),
+        ((0, -268_435_456), Err(ElementFault::Range)),
+        ((4_294_967_296, 0), Err(ElementFault::Range)),
+        ((0, i64::MIN), Err(ElementFault::Range)),
+    ];
+    for ((re, im), stored) in cases {
+        assert_eq!(rt;
+            GaussianInteger::try_from(Parts { re, im }).map(|x| (x.re, x.im)),
+            stored
+        );
     }
 }
 
@@ -351,14 +374,14 @@ fn sums_take_32(rt: HostRuntime) -> Result<(), Fail> {
         ((1, 2), (3, -1), (160, 160)),
     ] {
         let mut sum = GaussianSum::new();
-        assert_eq!(rt; (sum.re, sum.im), (0, 0));
+        assert_eq!(rt; (sum.total.re, sum.total.im), (0, 0));
         assert_eq!(rt; sum.count, 0);
         for _ in 0..32 {
             sum.take(&gaussian(a), &gaussian(b))?;
         }
         let answer = sum.take(&gaussian(a), &gaussian(b));
         assert_eq!(rt; answer, Err(ElementFault::SumFull));
-        assert_eq!(rt; (sum.re, sum.im), total);
+        assert_eq!(rt; (sum.total.re, sum.total.im), total);
         assert_eq!(rt; sum.count, 32);
     }
     Ok(())

@@ -1,4 +1,6 @@
 // Relations over the Gaussian integers and the bit polynomials, reduced by one generic function.
+use crate::bits::bits;
+use crate::gaussian::gaussian;
 use bit_polynomials::BitPolynomial;
 use gaussian_integers::GaussianInteger;
 use kinds::Euclid;
@@ -14,15 +16,9 @@ fn steps<E: Euclid>(
     q: &mut [E],
     q_inverse: &mut [E],
 ) -> Option<u32> {
-    let mut state = match open(2, q, q_inverse) {
-        Ok(state) => state,
-        Err(_) => return None,
-    };
+    let mut state = open(2, q, q_inverse).ok()?;
     for row in relations {
-        state = match state.add(row, a, w, p, p_inverse, q) {
-            Ok(state) => state,
-            Err(_) => return None,
-        };
+        state = state.add(row, a, w, p, p_inverse, q).ok()?;
     }
     match state.run(100, w, p, p_inverse, q, q_inverse) {
         Run::Done(_, count) => Some(count),
@@ -30,22 +26,12 @@ fn steps<E: Euclid>(
     }
 }
 
-fn gaussian(parts: (i32, i32)) -> GaussianInteger {
-    GaussianInteger {
-        re: parts.0,
-        im: parts.1,
-    }
-}
-
 fn parts(x: &GaussianInteger) -> (i32, i32) {
     (x.re, x.im)
 }
 
-fn bits(bits: u32) -> BitPolynomial {
-    BitPolynomial { bits }
-}
-
-// The steps over the Gaussian integers, and the first two rows of the worktable.
+// The steps over the Gaussian integers, and the first two rows of the worktable. One function for this and the next does
+// not prove: nothing says that 1,024 elements of a type parameter fit in memory.
 fn gaussian_reduced(relations: &[[GaussianInteger; 2]]) -> (Option<u32>, [[(i32, i32); 2]; 2]) {
     let zero = gaussian((0, 0));
     let mut a = [zero; 1024];

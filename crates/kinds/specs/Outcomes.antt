@@ -2,6 +2,7 @@
 --
 --   fault_number Range 1, Zero divisor 2, Sum full 3
 --   Becomes      a lent element means a given member, or Range: the member does not fit and the element is left
+--   Makes        an element made of a given member means it, or Range: the member does not fit
 --   Takes        a sum took one product more, or Sum full: it had 32 and is left
 --   Divided      lent quotient and remainder are set, or Zero divisor: both are left
 use Rattle.std.specs.Prelude.{◌≡◌, ℕ, ◌+◌, ◌<◌, ◌≤◌, Ok, Err, Result, ◌≢◌}
@@ -17,7 +18,11 @@ fault_number SumFull = 3
 module _ {E S : Type 0} (m : Model E S) where
   abbrev pub Becomes : m.Member → E → E → Result (Unit {0}) ElementFault → Type 0
   Becomes a old new (Ok x) = m.mean new ≡ a
-  Becomes a old new (Err e) = (e ≡ Range) × (new ≡ old) × (m.Fits a → ⊥)
+  Becomes a old new (Err e) = (e ≡ Range) × (new ≡ old) × ¬ (m.Fits a)
+
+  abbrev pub Makes : m.Member → Result E ElementFault → Type 0
+  Makes a (Ok e) = m.mean e ≡ a
+  Makes a (Err e) = (e ≡ Range) × ¬ (m.Fits a)
 
   abbrev pub Takes : m.Member → S → S → Result (Unit {0}) ElementFault → Type 0
   Takes p old new (Ok x) = (m.count old < 32) × (m.count new ≡ m.count old + 1) × (m.total new ≡ m.ring.add (m.total old) p)

@@ -19,7 +19,7 @@ pub enum ElementFault {
 }
 
 impl ElementFault {
-    // The refusal's number.
+    // The refusal's number in the rules.
     pub fn number(self) -> u8
         ensures { result ≡ fault_number self }
     {
@@ -48,7 +48,10 @@ pub trait Ring: Copy {
 
     // The element means what `from` means.
     fn copy_from(&mut self, from: &Self)
-        ensures { model.mean self.new ≡ model.mean from.now };
+        ensures { model.mean self.new ≡ model.mean from.now }
+    {
+        *self = *from;
+    }
 
     // Adds q times y.
     fn add_mul(&mut self, q: &Self, y: &Self) -> Result<(), ElementFault>
@@ -58,7 +61,7 @@ pub trait Ring: Copy {
     fn sub_mul(&mut self, q: &Self, y: &Self) -> Result<(), ElementFault>
         ensures { Becomes model (sub model.ring (model.mean self.old) (product model q.now y.now)) self.old self.new result };
 
-    // Whether both mean the same member.
+    // Whether both mean the same member. No derived `==`: two stored values may mean one member.
     fn equals(&self, other: &Self) -> bool
         ensures { Decides result (model.mean self.now ≡ model.mean other.now) };
 
@@ -84,7 +87,8 @@ pub trait Ring: Copy {
     ghost normal: { NormalLaws model };
 }
 
-// A sum of at most 32 products of elements, exact.
+// A sum of at most 32 products of elements, exact. Each kind has its own: the bound that keeps the next addition inside its
+// word is the kind's, so a shared `take` would need a public method with a `requires`.
 pub trait Sums<E: Ring<Sum = Self>>: Copy {
     // A sum of no products.
     fn new() -> Self

@@ -1,5 +1,5 @@
 -- Polynomials by their coefficients: those with the same coefficients are equal.
-use Rattle.std.proofs.Common.{◌≡◌, ℕ, zero, suc, ◌≤◌, refl, arith}
+use Rattle.std.proofs.Common.{◌≡◌, ◌≢◌, ℕ, zero, suc, ◌≤◌, refl, arith}
 use mathlib.Core.Path.{fun_ext}
 use mathlib.Core.HLevel.{is_prop→PathP, Π_prop, ¬_prop, hedberg}
 use Rattle.std.proofs.Math.Decide.{dec_le}
@@ -31,7 +31,7 @@ module _ {F : Type 0} (K : Field F) where
   size_prop f d e = λ i. record {
     size = s i;
     beyond = is_prop→PathP (λ i. Ends R f (s i)) (λ i. Π_prop (λ k. Π_prop (λ _. field_set (f k) R.zero))) d.beyond e.beyond i;
-    top = is_prop→PathP (λ i. (k : ℕ) → s i ≡ suc k → f k ≡ R.zero → ⊥) (λ i. Π_prop (λ k. Π_prop (λ _. ¬_prop))) d.top e.top i;
+    top = is_prop→PathP (λ i. (k : ℕ) → s i ≡ suc k → f k ≢ R.zero) (λ i. Π_prop (λ k. Π_prop (λ _. ¬_prop))) d.top e.top i;
   }
     where
       s : d.size ≡ e.size

@@ -1,5 +1,5 @@
 -- Division of polynomials: quotient and remainder exist, and are the only ones.
-use Rattle.std.proofs.Common.{◌≡◌, ℕ, zero, suc, pred, ◌<◌, ◌≤◌, [], ◌∷◌, sym, refl, ap, ◌∙◌, ap₂, arith}
+use Rattle.std.proofs.Common.{◌≡◌, ◌≢◌, ℕ, zero, suc, pred, ◌<◌, ◌≤◌, [], ◌∷◌, sym, refl, ap, ◌∙◌, ap₂, arith}
 use Rattle.std.proofs.Math.Decide.{ℕ_discrete}
 use Rattle.algebra.specs.Ring.{sub, Divides}
 use Rattle.algebra.specs.Field.{Field}
@@ -69,7 +69,7 @@ module _ {F : Type 0} (K : Field F) where
   long_division_divides (suc n) d a b h e = division_step a b (long_division K n d (drop_power K a) b).0 (long_division K n d (drop_power K a) b).1 d e
       (long_division_divides n d (drop_power K a) b (drop_power_size K a n h) e)
 
-  pub division : (a b : Polynomial K) → (b ≡ null K → ⊥) → Division a b (quotient K a b) (remainder K a b)
+  pub division : (a b : Polynomial K) → (b ≢ null K) → Division a b (quotient K a b) (remainder K a b)
   division a b h =
       let (d, e) = degree K b h in
       let p : size K b ≡ suc (pred (size K b)) = omega arith in
@@ -83,7 +83,7 @@ module _ {F : Type 0} (K : Field F) where
   quotient_size a b = long_division_size (size K a) (pred (size K b)) a b
 
   -- two divisions of a by b are one
-  pub division_once : (a b q r p s : Polynomial K) → (b ≡ null K → ⊥) → Division a b q r → Division a b p s → (q ≡ p) × (r ≡ s)
+  pub division_once : (a b q r p s : Polynomial K) → (b ≢ null K) → Division a b q r → Division a b p s → (q ≡ p) × (r ≡ s)
   division_once a b q r p s h d e = (one_quotient, one_rest)
     where
       both : plus K (times K q b) r ≡ plus K (times K p b) s
@@ -123,12 +123,12 @@ module _ {F : Type 0} (K : Field F) where
     smaller = d.smaller;
   }
 
-  pub same_remainder : (a b c : Polynomial K) → (b ≡ null K → ⊥) → Divides (polynomials K) b (sub (polynomials K) a c) → remainder K a b ≡ remainder K c b
+  pub same_remainder : (a b c : Polynomial K) → (b ≢ null K) → Divides (polynomials K) b (sub (polynomials K) a c) → remainder K a b ≡ remainder K c b
   same_remainder a b c h (m, e) =
       (division_once a b (quotient K a b) (remainder K a b) (plus K (quotient K c b) m) (remainder K c b) h (division a b h)
       (division_more a b c m (quotient K c b) (remainder K c b) e (division c b h))).1
 
-  pub remainder_same : (a b c : Polynomial K) → (b ≡ null K → ⊥) → remainder K a b ≡ remainder K c b → Divides (polynomials K) b (sub (polynomials K) a c)
+  pub remainder_same : (a b c : Polynomial K) → (b ≢ null K) → remainder K a b ≡ remainder K c b → Divides (polynomials K) b (sub (polynomials K) a c)
   remainder_same a b c h e =
       one_remainder (polynomial_laws K) a c b (quotient K a b) (quotient K c b) (remainder K c b)
       ((division a b h).is ∙ ap (plus K (times K (quotient K a b) b)) e) (division c b h).is

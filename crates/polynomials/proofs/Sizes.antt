@@ -1,5 +1,5 @@
 -- Sizes of polynomials; a product of nonzero polynomials is nonzero.
-use Rattle.std.proofs.Common.{◌≡◌, ℕ, zero, suc, ◌+◌, ◌≤◌, [], ◌∷◌, sym, refl, ap, ◌∙◌, ap₂, arith}
+use Rattle.std.proofs.Common.{◌≡◌, ◌≢◌, ℕ, zero, suc, ◌+◌, ◌≤◌, [], ◌∷◌, sym, refl, ap, ◌∙◌, ap₂, arith}
 use Rattle.std.proofs.Math.Decide.{ℕ_discrete, dec_le}
 use Rattle.algebra.specs.Ring.{Domain}
 use Rattle.algebra.specs.Field.{Field}
@@ -15,7 +15,7 @@ use Rattle.polynomials.proofs.Laws.{polynomial_laws}
 module _ {F : Type 0} (K : Field F) where
   open K use {ring as R, laws}
 
-  field_mul_not_zero : (x y : F) → (x ≡ R.zero → ⊥) → (y ≡ R.zero → ⊥) → R.mul x y ≡ R.zero → ⊥
+  field_mul_not_zero : (x y : F) → (x ≢ R.zero) → (y ≢ R.zero) → R.mul x y ≢ R.zero
   field_mul_not_zero x y h d e = d
       (sym (one_mul laws y) ∙ ap (λ t. R.mul t y) (sym (K.mul_inverse x h))
       ∙ ring laws (x ∷ y ∷ K.inverse x ∷ []) {y = R.mul (K.inverse x) (R.mul x y)} (search reify depth 20) refl
@@ -28,7 +28,7 @@ module _ {F : Type 0} (K : Field F) where
   ends_at p n l k j = p.exact.beyond k (omega arith)
 
   -- the last coefficient that is not zero stands at m
-  pub size_is : (p : Polynomial K) (m : ℕ) → Ends R p.coefficient (suc m) → (p.coefficient m ≡ R.zero → ⊥) → size K p ≡ suc m
+  pub size_is : (p : Polynomial K) (m : ℕ) → Ends R p.coefficient (suc m) → (p.coefficient m ≢ R.zero) → size K p ≡ suc m
   size_is p m h d = by (dec_le (size K p) m)
     where
       by : Dec (size K p ≤ m) → size K p ≡ suc m
@@ -41,15 +41,18 @@ module _ {F : Type 0} (K : Field F) where
   pub size_null : (p : Polynomial K) → size K p ≡ 0 → p ≡ null K
   size_null p e = same_coefficients K p (null K) (λ k. p.exact.beyond k (omega arith) ∙ sym (null_coefficient K k))
 
-  -- a nonzero polynomial has a degree
-  pub degree : (p : Polynomial K) → (p ≡ null K → ⊥) → (m : ℕ) × (size K p ≡ suc m)
-  degree p h = by (size K p) refl
+  -- a polynomial is null, or has a degree
+  pub null_or_degree : {P : Type 0} (p : Polynomial K) → (p ≡ null K → P) → ((m : ℕ) → size K p ≡ suc m → P) → P
+  null_or_degree {P} p f g = by (size K p) refl
     where
-      by : (s : ℕ) → size K p ≡ s → (m : ℕ) × (size K p ≡ suc m)
-      by zero e = absurd (h (size_null p e))
-      by (suc m) e = (m, e)
+      by : (s : ℕ) → size K p ≡ s → P
+      by zero e = f (size_null p e)
+      by (suc m) e = g m e
 
-  pub not_null : (p : Polynomial K) (m : ℕ) → size K p ≡ suc m → p ≡ null K → ⊥
+  pub degree : (p : Polynomial K) → (p ≢ null K) → (m : ℕ) × (size K p ≡ suc m)
+  degree p h = null_or_degree p (λ z. absurd (h z)) (λ m e. (m, e))
+
+  pub not_null : (p : Polynomial K) (m : ℕ) → size K p ≡ suc m → p ≢ null K
   not_null p m e z = let s = ap (size K) z ∙ null_size in omega arith
 
   pub null? : (p : Polynomial K) → Dec (p ≡ null K)
@@ -84,11 +87,11 @@ module _ {F : Type 0} (K : Field F) where
       ends : Ends R (times K p q).coefficient (suc (m + n))
       ends k l = times_coefficient K p q k ∙ convolution_ends laws (suc m) n p.coefficient q.coefficient ends_p ends_q k (omega arith)
 
-      last : (times K p q).coefficient (m + n) ≡ R.zero → ⊥
+      last : (times K p q).coefficient (m + n) ≢ R.zero
       last z = field_mul_not_zero (p.coefficient m) (q.coefficient n) (p.exact.top m d) (q.exact.top n e)
           (sym (convolution_top laws m n p.coefficient q.coefficient ends_p ends_q) ∙ sym (times_coefficient K p q (m + n)) ∙ z)
 
-  pub constant_size : (c : F) → (c ≡ R.zero → ⊥) → size K (constant K c) ≡ 1
+  pub constant_size : (c : F) → (c ≢ R.zero) → size K (constant K c) ≡ 1
   constant_size c h = size_is (constant K c) 0
       (ends_at (constant K c) 1 (add_power_size c (null K) 0 (let z = null_size in omega arith)))
       (λ z. h (sym (add_power_coefficient K c (null K) 0) ∙ z))
@@ -100,7 +103,7 @@ module _ {F : Type 0} (K : Field F) where
   }
 
   -- a nonzero multiple of b has at least the size of b
-  pub multiple_size : (q b : Polynomial K) → (times K q b ≡ null K → ⊥) → size K b ≤ size K (times K q b)
+  pub multiple_size : (q b : Polynomial K) → (times K q b ≢ null K) → size K b ≤ size K (times K q b)
   multiple_size q b h =
       let (m, i) = degree q (λ e. h (ap (λ t. times K t b) e ∙ zero_mul (polynomial_laws K) b)) in
       let (n, j) = degree b (λ e. h (ap (times K q) e ∙ mul_zero (polynomial_laws K) q)) in

@@ -1,17 +1,17 @@
 -- The units of the polynomials, and their normal form.
-use Rattle.std.proofs.Common.{◌≡◌, ℕ, zero, suc, sym, refl, ap, ◌∙◌, arith}
+use Rattle.std.proofs.Common.{◌≡◌, ◌≢◌, ℕ, zero, suc, sym, ap, ◌∙◌, arith}
 use Rattle.algebra.specs.Ring.{Invertible}
 use Rattle.algebra.specs.Field.{Field}
 use Rattle.algebra.proofs.Ring.{one_mul, mul_zero, zero_mul}
 use Rattle.polynomials.specs.Polynomial.{Polynomial, size, null, constant, times, polynomials, leading, coefficient_before, unit, inverse}
 use Rattle.polynomials.proofs.Coefficients.{same_coefficients, null_coefficient, add_power_coefficient}
 use Rattle.polynomials.proofs.Laws.{polynomial_laws, constant_times}
-use Rattle.polynomials.proofs.Sizes.{null_size, size_null, degree, times_size, constant_size, polynomial_domain}
+use Rattle.polynomials.proofs.Sizes.{null_size, null_or_degree, degree, times_size, constant_size, polynomial_domain}
 
 module _ {F : Type 0} (K : Field F) where
   open K use {ring as R, laws}
 
-  inverse_not_zero : (x : F) → (x ≡ R.zero → ⊥) → K.inverse x ≡ R.zero → ⊥
+  inverse_not_zero : (x : F) → (x ≢ R.zero) → K.inverse x ≢ R.zero
   inverse_not_zero x h z = K.one_not_zero (sym (K.mul_inverse x h) ∙ ap (R.mul x) z ∙ mul_zero laws x)
 
   constant_mul : (c d : F) → times K (constant K c) (constant K d) ≡ constant K (R.mul c d)
@@ -42,11 +42,9 @@ module _ {F : Type 0} (K : Field F) where
 
   -- a multiple by a unit has the same size
   pub unit_times_size : (u a : Polynomial K) → Invertible (polynomials K) u → size K (times K u a) ≡ size K a
-  unit_times_size u a (v, e) = by (size K a) refl
-    where
-      by : (s : ℕ) → size K a ≡ s → size K (times K u a) ≡ size K a
-      by zero d = ap (size K) (ap (times K u) (size_null K a d) ∙ mul_zero (polynomial_laws K) u ∙ sym (size_null K a d))
-      by (suc m) d = let s = times_size K u a 0 m (unit_size u v e) d in omega arith
+  unit_times_size u a (v, e) = null_or_degree K a
+      (λ z. ap (size K) (ap (times K u) z ∙ mul_zero (polynomial_laws K) u ∙ sym z))
+      (λ m d. let s = times_size K u a 0 m (unit_size u v e) d in omega arith)
 
   leading_null : leading K (null K) ≡ R.one
   leading_null = ap (coefficient_before K (null K)) (null_size K)
@@ -54,14 +52,12 @@ module _ {F : Type 0} (K : Field F) where
   leading_at : (a : Polynomial K) (m : ℕ) → size K a ≡ suc m → leading K a ≡ a.coefficient m
   leading_at a m e = ap (coefficient_before K a) e
 
-  pub leading_not_zero : (a : Polynomial K) → leading K a ≡ R.zero → ⊥
-  leading_not_zero a z = by (size K a) refl
-    where
-      by : (s : ℕ) → size K a ≡ s → ⊥
-      by zero e = K.one_not_zero (sym (ap (coefficient_before K a) e) ∙ z)
-      by (suc m) e = a.exact.top m e (sym (leading_at a m e) ∙ z)
+  pub leading_not_zero : (a : Polynomial K) → leading K a ≢ R.zero
+  leading_not_zero a z = null_or_degree K a
+      (λ e. K.one_not_zero (sym (ap (leading K) e ∙ leading_null) ∙ z))
+      (λ m e. a.exact.top m e (sym (leading_at a m e) ∙ z))
 
-  leading_times : (c : F) (a : Polynomial K) (m : ℕ) → (c ≡ R.zero → ⊥) → size K a ≡ suc m → leading K (times K (constant K c) a) ≡ R.mul c (leading K a)
+  leading_times : (c : F) (a : Polynomial K) (m : ℕ) → (c ≢ R.zero) → size K a ≡ suc m → leading K (times K (constant K c) a) ≡ R.mul c (leading K a)
   leading_times c a m h e =
       let s : size K (times K (constant K c) a) ≡ suc m = times_size K (constant K c) a 0 m (constant_size K c h) e ∙ omega arith in
       leading_at (times K (constant K c) a) m s ∙ constant_times K c a m ∙ ap (R.mul c) (sym (leading_at a m e))
@@ -79,20 +75,16 @@ module _ {F : Type 0} (K : Field F) where
   unit_null = ap (λ c. constant K (K.inverse c)) leading_null ∙ ap (constant K) (sym (one_mul laws (K.inverse R.one)) ∙ K.mul_inverse R.one K.one_not_zero)
 
   pub unit_normal : (a : Polynomial K) → leading K (times K (unit K a) a) ≡ R.one
-  unit_normal a = by (size K a) refl
-    where
-      by : (s : ℕ) → size K a ≡ s → leading K (times K (unit K a) a) ≡ R.one
-      by zero e = ap (leading K) (ap (times K (unit K a)) (size_null K a e) ∙ mul_zero (polynomial_laws K) (unit K a)) ∙ leading_null
-      by (suc m) e = leading_times (K.inverse (leading K a)) a m (inverse_not_zero (leading K a) (leading_not_zero a)) e ∙ inverse_leading a
+  unit_normal a = null_or_degree K a
+      (λ z. ap (leading K) (ap (times K (unit K a)) z ∙ mul_zero (polynomial_laws K) (unit K a)) ∙ leading_null)
+      (λ m e. leading_times (K.inverse (leading K a)) a m (inverse_not_zero (leading K a) (leading_not_zero a)) e ∙ inverse_leading a)
 
-  normal_constant : (c : F) (a : Polynomial K) → (c ≡ R.zero → ⊥) → leading K a ≡ R.one → leading K (times K (constant K c) a) ≡ R.one → times K (constant K c) a ≡ a
-  normal_constant c a h p q = by (size K a) refl
-    where
-      by : (s : ℕ) → size K a ≡ s → times K (constant K c) a ≡ a
-      by zero d = ap (times K (constant K c)) (size_null K a d) ∙ mul_zero (polynomial_laws K) (constant K c) ∙ sym (size_null K a d)
-      by (suc m) d =
-          let one : c ≡ R.one = sym (laws.mul_one c) ∙ ap (R.mul c) (sym p) ∙ sym (leading_times c a m h d) ∙ q in
-          ap (λ t. times K (constant K t) a) one ∙ one_mul (polynomial_laws K) a
+  normal_constant : (c : F) (a : Polynomial K) → (c ≢ R.zero) → leading K a ≡ R.one → leading K (times K (constant K c) a) ≡ R.one → times K (constant K c) a ≡ a
+  normal_constant c a h p q = null_or_degree K a
+      (λ z. ap (times K (constant K c)) z ∙ mul_zero (polynomial_laws K) (constant K c) ∙ sym z)
+      (λ m d.
+      let one : c ≡ R.one = sym (laws.mul_one c) ∙ ap (R.mul c) (sym p) ∙ sym (leading_times c a m h d) ∙ q in
+      ap (λ t. times K (constant K t) a) one ∙ one_mul (polynomial_laws K) a)
 
   pub normal_once : (a u : Polynomial K) → Invertible (polynomials K) u → leading K a ≡ R.one → leading K (times K u a) ≡ R.one → times K u a ≡ a
   normal_once a u (v, e) p q =

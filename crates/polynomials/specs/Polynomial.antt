@@ -20,7 +20,7 @@
 --   leading             the coefficient of the highest power; one for the zero polynomial
 --   unit                the constant that makes the leading coefficient one
 --   inverse             the inverse of that constant
-use Rattle.std.specs.Prelude.{◌≡◌, refl, ℕ, zero, suc, pred, ◌+◌}
+use Rattle.std.specs.Prelude.{◌≡◌, ◌≢◌, refl, ℕ, zero, suc, pred, ◌+◌}
 use Rattle.std.proofs.Common.{ap, ap₂, ◌∙◌, arith}
 use Rattle.algebra.specs.Ring.{Ring}
 use Rattle.algebra.specs.Field.{Field}
@@ -35,7 +35,7 @@ module _ {F : Type 0} (K : Field F) where
   pub record Sized (f : ℕ → F) : Type 0 where
     pub size : ℕ
     pub beyond : Ends R f size
-    pub top : (k : ℕ) → size ≡ suc k → f k ≡ R.zero → ⊥
+    pub top : (k : ℕ) → size ≡ suc k → f k ≢ R.zero
 
   unfoldable pub trimmed : (f : ℕ → F) (n : ℕ) → Ends R f n → Sized f
   trimmed f zero h = record { size = 0; beyond = h; top = λ k e. absurd (omega arith) }

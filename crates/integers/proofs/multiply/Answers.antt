@@ -3,12 +3,6 @@ use Rattle.std.proofs.lemmas.Int.{ints, to_z-of_z}
 use Rattle.algebra.proofs.Magnitudes.{abs_mul_le}
 use Rattle.integers.proofs.multiply.Goals as goal
 
-pub overflow_mul-result : goal.overflow_mul-result
-overflow_mul-result c =
-    let fa : SFits w64 c.get.result = omega (arith, ints) in
-    let fb : SFits w64 c.get-2.result = omega (arith, ints) in
-    simp to_z-of_z (omega (arith, ints, abs_mul_le c.get.result c.get-2.result 536870911 536870911 c.get.ensures.bound c.get-2.ensures.bound))
-
 pub returns : goal.returns
 returns c =
     let x = c.get.result in

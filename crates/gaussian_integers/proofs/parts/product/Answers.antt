@@ -3,12 +3,6 @@ use Rattle.std.proofs.lemmas.Int.{ints, to_z-of_z}
 use Rattle.algebra.proofs.Magnitudes.{abs_mul_le}
 use Rattle.gaussian_integers.proofs.parts.product.Goals as goal
 
-pub overflow_mul-result : goal.overflow_mul-result
-overflow_mul-result c =
-    let fx : SFits w64 c.args.x = c.ranges.x in
-    let fy : SFits w64 c.args.y = c.ranges.y in
-    simp to_z-of_z (omega (arith, ints, abs_mul_le c.args.x c.args.y 268435455 268435455 c.requires.left c.requires.right))
-
 pub returns : goal.returns
 returns c =
     let x = c.args.x in
