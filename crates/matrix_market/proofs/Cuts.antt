@@ -1,53 +1,66 @@
 -- The first line of a text, and the first field of a line.
-use Rattle.std.proofs.Common.{◌≡◌, ℕ, zero, suc, ◌-◌, ◌<◌, true, false, [], ◌∷◌, length, get_or, take, drop, ap, ◌∙◌, arith}
-use Rattle.std.proofs.lemmas.List.{take_rest, take_all, drop_all, drop_more}
-use Rattle.std.proofs.lemmas.Slice.{first_rest}
-use Rattle.std.proofs.lemmas.Bool.{eq-eqb, ne_eqb}
+use Rattle.std.proofs.Common.{sym, ◌≡◌, ℕ, suc, ◌+◌, ◌-◌, ◌<◌, ◌≤◌, Bool, true, false, cond, not, eqb, [], ◌∷◌, length, get_or, take, drop, take_while, add-one, ap, ◌∙◌, refl, arith}
+use Rattle.std.specs.List.{prefix_len}
+use Rattle.std.proofs.lemmas.List.{take_rest, take_all, drop_all, length-drop, get_or-drop}
+use Rattle.std.proofs.lemmas.List.Sums.{prefix_len_stops}
+use Rattle.std.proofs.lemmas.List.Folds.{length-prefix_len}
 use Rattle.matrix_market.specs.Layout.{Bytes, lines, onto, blank, ends, fields}
 
--- a line feed at i, and none before it
-pub line_cut : (s : Bytes) (i : ℕ) → i < length s → ((k : ℕ) → k < i → get_or s k 0 ≡ 10 → ⊥) → get_or s i 0 ≡ 10 → lines s ≡ take i s ∷ lines (drop (suc i) s)
-line_cut [] i l none here = absurd (omega arith)
-line_cut (b ∷ bs) zero l none here = rw (eq-eqb b 10 here)
-line_cut (b ∷ bs) (suc i) l none here =
-    rw (ne_eqb b 10 (none 0 (omega arith)))
-    (ap (onto b) (line_cut bs i (omega arith) (λ k h. none (suc k) (omega arith)) here))
+abbrev no_feed : ℕ → Bool
+no_feed b = not (eqb b 10)
 
--- no line feed at all
-pub line_whole : (s : Bytes) → 0 < length s → ((k : ℕ) → k < length s → get_or s k 0 ≡ 10 → ⊥) → lines s ≡ s ∷ []
-line_whole [] l none = absurd (omega arith)
-line_whole (b ∷ []) l none = rw (ne_eqb b 10 (none 0 (omega arith)))
-line_whole (b ∷ (c ∷ bs)) l none =
-    rw (ne_eqb b 10 (none 0 (omega arith)))
-    (ap (onto b) (line_whole (c ∷ bs) (omega arith) (λ k h. none (suc k) (omega arith))))
+first_line : (s : Bytes) → 0 < length s → lines s ≡ take (prefix_len no_feed s) s ∷ lines (drop (suc (prefix_len no_feed s)) s)
+first_line [] l = absurd (omega arith)
+first_line (b ∷ []) l =
+    elim (eqb b 10) as (λ v. cond v ([] ∷ []) (onto b []) ≡ take (cond (not v) 1 0) (b ∷ []) ∷ lines (drop (suc (cond (not v) 1 0)) (b ∷ [])))
+    [ true ↦ refl | false ↦ refl ]
+first_line (b ∷ (c ∷ s)) l =
+    let n : ℕ = prefix_len no_feed (c ∷ s) in
+    let more : 1 + n ≡ suc n = omega arith in
+    elim (eqb b 10) as (λ v. cond v ([] ∷ lines (c ∷ s)) (onto b (lines (c ∷ s))) ≡ take (cond (not v) (1 + n) 0) (b ∷ (c ∷ s)) ∷ lines (drop (suc (cond (not v) (1 + n) 0)) (b ∷ (c ∷ s))))
+    [ true ↦ refl | false ↦ rw more (ap (onto b) (first_line (c ∷ s) (omega arith))) ]
 
--- a blank in front
-pub skips : (t : Bytes) → 0 < length t → blank (get_or t 0 0) ≡ true → fields t ≡ fields (take (length t - 1) (drop 1 t))
-skips t l b = ap fields (first_rest t 0 l) ∙ rw b
+-- up to the first line feed
+pub line_cut : (s : Bytes) (i : ℕ) → i ≡ length (take_while no_feed s) → i < length s → lines s ≡ take i s ∷ lines (take (length s - (i + 1)) (drop (i + 1) s))
+line_cut s i e l = rw (take_rest, add-one, e, length-prefix_len) (first_line s (omega arith))
 
--- a byte that is no blank, before another
-joins : (b : ℕ) (bs : Bytes) → blank b ≡ false → ends bs ≡ false → fields (b ∷ bs) ≡ onto b (fields bs)
-joins b bs p q = rw (p, q)
+-- no line feed
+pub line_whole : (s : Bytes) (i : ℕ) → i ≡ length (take_while no_feed s) → 0 < length s → length s ≤ i → lines s ≡ s ∷ []
+line_whole s i e h l =
+    let n : prefix_len no_feed s ≡ i = rw (e, length-prefix_len) refl in
+    first_line s h ∙ rw (n, take_all i s l, drop_all (suc i) s (omega arith)) refl
 
--- a field of i + 1 bytes
-field_at : (s : Bytes) (i : ℕ) → i < length s → ((k : ℕ) → k < suc i → blank (get_or s k 0) ≡ false) → ends (drop (suc i) s) ≡ true → fields s ≡ take (suc i) s ∷ fields (drop (suc i) s)
-field_at [] i l none here = absurd (omega arith)
-field_at (b ∷ bs) zero l none here = rw (none 0 (omega arith), here)
-field_at (b ∷ []) (suc i) l none here = absurd (omega arith)
-field_at (b ∷ (c ∷ bs)) (suc i) l none here =
-    joins b (c ∷ bs) (none 0 (omega arith)) (none 1 (omega arith))
-    ∙ ap (onto b) (field_at (c ∷ bs) i (omega arith) (λ k h. none (suc k) (omega arith)) here)
+-- blanks in front
+skip_blanks : (s : Bytes) → fields s ≡ fields (drop (prefix_len blank s) s)
+skip_blanks [] = refl
+skip_blanks (b ∷ s) =
+    let n : ℕ = prefix_len blank s in
+    let more : 1 + n ≡ suc n = omega arith in
+    elim (blank b) as (λ v. v ≡ blank b → cond v (fields s) (cond (ends s) ((b ∷ []) ∷ fields s) (onto b (fields s))) ≡ fields (drop (cond v (1 + n) 0) (b ∷ s)))
+    [ true ↦ λ e. rw more (skip_blanks s) | false ↦ λ e. rw (← e) refl ] refl
 
--- a blank at i, and none before it
-pub field_cut : (t : Bytes) (i : ℕ) → 0 < i → i < length t → ((k : ℕ) → k < i → blank (get_or t k 0) ≡ false) → blank (get_or t i 0) ≡ true → fields t ≡ take i t ∷ fields (take (length t - i) (drop i t))
-field_cut t zero p l none here = absurd (omega arith)
-field_cut t (suc i) p l none here = rw take_rest (field_at t i (omega arith) none (ap ends (drop_more t (suc i) 0 l) ∙ here))
+-- a field ends at its first blank, or at the end
+first_field : (b : ℕ) (s : Bytes) → blank b ≡ false → fields (b ∷ s) ≡ (b ∷ take (prefix_len (λ x. not (blank x)) s) s) ∷ fields (drop (prefix_len (λ x. not (blank x)) s) s)
+first_field b [] e = rw e refl
+first_field b (c ∷ s) e =
+    let n : ℕ = prefix_len (λ x. not (blank x)) s in
+    let more : 1 + n ≡ suc n = omega arith in
+    rw e
+    (elim (blank c) as (λ v. v ≡ blank c → cond v ((b ∷ []) ∷ fields (c ∷ s)) (onto b (fields (c ∷ s))) ≡ (b ∷ take (cond (not v) (1 + n) 0) (c ∷ s)) ∷ fields (drop (cond (not v) (1 + n) 0) (c ∷ s)))
+    [ true ↦ λ q. refl | false ↦ λ q. rw more (ap (onto b) (first_field c s (sym q))) ] refl)
 
--- no blank at all
-pub field_whole : (t : Bytes) → 0 < length t → ((k : ℕ) → k < length t → blank (get_or t k 0) ≡ false) → fields t ≡ t ∷ []
-field_whole [] l none = absurd (omega arith)
-field_whole (b ∷ bs) l none =
-    let past : drop (suc (length bs)) (b ∷ bs) ≡ [] = drop_all (suc (length bs)) (b ∷ bs) (omega arith) in
-    field_at (b ∷ bs) (length bs) (omega arith) none (ap ends past)
-    ∙ ap (λ x. x ∷ fields (drop (suc (length bs)) (b ∷ bs))) (take_all (suc (length bs)) (b ∷ bs) (omega arith))
-    ∙ ap (λ x. (b ∷ bs) ∷ fields x) past
+-- nothing but blanks
+pub no_field : (s : Bytes) (i : ℕ) → i ≡ length (take_while blank s) → length s ≤ i → fields s ≡ []
+no_field s i e l = skip_blanks s ∙ ap fields (drop_all (prefix_len blank s) s (rw (e, length-prefix_len) at l))
+
+-- the first field after the blanks
+pub field_cut : (s t : Bytes) (i j : ℕ) → i ≡ length (take_while blank s) → t ≡ drop i s → 0 < length t → j ≡ length (take_while (λ b. not (blank b)) t) → fields s ≡ take j t ∷ fields (drop j t)
+field_cut s [] i j e f l q = absurd (omega arith)
+field_cut s (b ∷ t) i j e f l q =
+    let n : prefix_len blank s ≡ i = rw (e, length-prefix_len) refl in
+    let inside : i < length s = omega (arith, ap length f, length-drop i s) in
+    let at_i : i + 0 ≡ i = omega arith in
+    let stop : blank (get_or s i 0) ≡ false = rw n at (prefix_len_stops blank s 0 (rw n inside)) in
+    let here : blank b ≡ false = ap (λ x. blank (get_or x 0 0)) f ∙ ap blank (get_or-drop i s 0 0) ∙ rw at_i stop in
+    let m : j ≡ suc (prefix_len (λ x. not (blank x)) t) = q ∙ length-prefix_len (λ x. not (blank x)) (b ∷ t) ∙ rw here (omega arith) in
+    skip_blanks s ∙ ap (λ k. fields (drop k s)) n ∙ ap fields (sym f) ∙ first_field b t here ∙ rw m refl

@@ -10,7 +10,8 @@
 --   fields          the runs of bytes of a line that are no blanks
 --   number          the number that digits write, after digits that wrote n
 --   digits          the number that 1 to k digits write
---   ranged          a magnitude with its sign, or Range where it is above 536870911
+--   in_range        an integer, or Range where its magnitude is above 536870911
+--   ranged          the integer of a sign and a magnitude, in range
 --   integer         the integer that a field writes: an optional minus, and 1 to 18 digits
 --   named           the fields are these words, in any letter case
 --   kind            the words of the header: matrix array integer general
@@ -19,8 +20,8 @@
 --   is_comment_line a line that begins with a percent sign
 --   shape           both sizes, where they are in bounds
 --   sizes           the sizes that the fields of a size line give
---   inner           an integer, or a refusal of the entry at line `at` with what it was
---   entry           the entry that the fields of line `at` give
+--   entry           the entry that the fields of a line give, or what is wrong with it
+--   inner           an entry, or the refusal of line `at` with what is wrong
 --   before          one entry in front of others, or the first refusal
 --   entries         k entries from line `at` on, one to a line, and nothing after them
 --   Matrix          the rows, the columns, and the entries column by column
@@ -32,12 +33,13 @@
 --   column          integers written one to a line
 --   opening         the first two lines that are written
 --   text            what is written of a matrix
-use Rattle.std.specs.Prelude.{ℕ, zero, suc, ◌+◌, ◌-◌, ◌*◌, Bool, true, false, cond, ◌&&◌, ◌||◌, List, [], ◌∷◌, ◌++◌, map, length, take, drop, ℤ, pos, neg_ℤ, Some, None, Ok, Err, codes, decimal, Option, Result, ◌==◌, nat_le}
+use Rattle.std.specs.Prelude.{ℕ, zero, suc, ◌+◌, ◌-◌, ◌*◌, Bool, true, false, cond, ◌&&◌, ◌||◌, List, [], ◌∷◌, ◌++◌, map, length, take, drop, ℤ, pos, neg_ℤ, unsigned_abs, Some, None, Ok, Err, codes, decimal, Option, Result, ◌==◌, nat_le}
 use Rattle.std.specs.Char.{to_ascii_lowercase, is_ascii_digit}
 use Rattle.std.specs.Str.{bytes_eq}
 use Rattle.std.specs.Fmt.{signed_decimal}
 use Rattle.kinds.specs.declared.ElementFault.{ElementFault}
 use Rattle.kinds.specs.declared.ElementFault.TheVariants.{Range}
+use Rattle.matrix_market.specs.Sizes.{in_bounds}
 use Rattle.matrix_market.specs.declared.ReadFault.{ReadFault}
 use Rattle.matrix_market.specs.declared.ReadFault.TheVariants.{Header, SizeLine, Entry, LeftOver}
 
@@ -70,9 +72,12 @@ number n (c ∷ cs) = cond (is_ascii_digit c) (number (10 * n + (c - 48)) cs) No
 abbrev pub digits : ℕ → Bytes → Option ℕ
 digits k ds = cond (nat_le 1 (length ds) && nat_le (length ds) k) (number 0 ds) None
 
+abbrev pub in_range : ℤ → Result ℤ (Option ElementFault)
+in_range z = cond (nat_le (unsigned_abs z) 536870911) (Ok z) (Err (Some Range))
+
 abbrev pub ranged : Bool → Option ℕ → Result ℤ (Option ElementFault)
 ranged minus None = Err None
-ranged minus (Some n) = cond (nat_le n 536870911) (Ok (cond minus (neg_ℤ (pos n)) (pos n))) (Err (Some Range))
+ranged minus (Some n) = in_range (cond minus (neg_ℤ (pos n)) (pos n))
 
 abbrev pub integer : Bytes → Result ℤ (Option ElementFault)
 integer [] = Err None
@@ -100,7 +105,7 @@ is_comment_line (b ∷ bs) = b == 37
 abbrev pub shape : Option ℕ → Option ℕ → Option (ℕ × ℕ)
 shape None n = None
 shape (Some m) None = None
-shape (Some m) (Some n) = cond (nat_le m 32 && (nat_le 1 n && nat_le n 32)) (Some (m, n)) None
+shape (Some m) (Some n) = cond (in_bounds m n) (Some (m, n)) None
 
 abbrev pub sizes : List Bytes → Option (ℕ × ℕ)
 sizes [] = None
@@ -108,14 +113,14 @@ sizes (f ∷ []) = None
 sizes (f ∷ (g ∷ [])) = shape (digits 2 f) (digits 2 g)
 sizes (f ∷ (g ∷ (h ∷ fs))) = None
 
+abbrev pub entry : List Bytes → Result ℤ (Option ElementFault)
+entry [] = Err None
+entry (f ∷ []) = integer f
+entry (f ∷ (g ∷ fs)) = Err None
+
 abbrev pub inner : ℕ → Result ℤ (Option ElementFault) → Result ℤ ReadFault
 inner at (Ok x) = Ok x
 inner at (Err e) = Err (Entry at e)
-
-abbrev pub entry : ℕ → List Bytes → Result ℤ ReadFault
-entry at [] = Err (Entry at None)
-entry at (f ∷ []) = inner at (integer f)
-entry at (f ∷ (g ∷ fs)) = Err (Entry at None)
 
 abbrev pub before : Result ℤ ReadFault → Result (List ℤ) ReadFault → Result (List ℤ) ReadFault
 before (Err e) r = Err e
@@ -126,7 +131,7 @@ abbrev pub entries : ℕ → ℕ → List Bytes → Result (List ℤ) ReadFault
 entries at zero [] = Ok []
 entries at zero (l ∷ ls) = Err (LeftOver at)
 entries at (suc k) [] = Err (Entry at None)
-entries at (suc k) (l ∷ ls) = before (entry at (fields l)) (entries (at + 1) k ls)
+entries at (suc k) (l ∷ ls) = before (inner at (entry (fields l))) (entries (at + 1) k ls)
 
 abbrev pub Matrix : Type 0
 Matrix = ℕ × ℕ × List ℤ

@@ -1,3 +1,5 @@
+pub mod Sizes
 pub mod Layout
 pub mod Stored
+pub mod Reader
 pub mod Numbered

@@ -1,26 +1,28 @@
 -- A matrix in a table of 32 columns, a text in a buffer, and what the reader and the writer leave.
 --
---   place     where entry number k of a matrix of m rows stands: row k % m, column k / m
+--   stored    an integer as an element stores it, or what is wrong
 --   placed    a table with the entries from number k on put in their places
 --   members   the c integers that the entries of a table mean, from number k on
 --   filled    a table with entries put in, or their refusal
 --   loaded    what the reader answers of a matrix or a refusal, and the table afterwards
 --   reading   what the reader answers, and the table afterwards: Short first, for a table under 1024 elements
---   Bounded   sizes of a matrix that fits: at most 32 rows, and 1 to 32 columns
 --   Appends   bs was put at `at`, up to r, and what follows is as it was
 --   refusal   why the writer refuses: Short of the buffer or the table first, then Sizes
 --   Wrote     what the writer answers and leaves: the text and its length, or a refusal and the buffer as it was
-use Rattle.std.specs.Prelude.{◌≡◌, ℕ, zero, suc, ◌+◌, ◌*◌, ◌/◌, ◌%◌, ◌≤◌, cond, ◌&&◌, List, [], ◌∷◌, ◌++◌, length, take, drop, ℤ, pos, Some, None, Ok, Err, Option, Result, nat_le, slice_index_or, slice_set}
+use Rattle.std.specs.Prelude.{◌≡◌, ℕ, zero, suc, ◌+◌, ◌*◌, cond, ◌&&◌, List, [], ◌∷◌, ◌++◌, length, take, drop, ℤ, pos, Some, None, Ok, Err, Option, Result, nat_le, slice_index_or, slice_set}
+use Rattle.kinds.specs.declared.ElementFault.{ElementFault}
 use Rattle.integers.specs.Meaning.{meaning}
 use Rattle.integers.specs.declared.Integer.{Integer}
 use Rattle.matrix_market.specs.declared.ReadFault.{ReadFault}
 use Rattle.matrix_market.specs.declared.ReadFault.TheVariants as read
 use Rattle.matrix_market.specs.declared.WriteFault.{WriteFault}
 use Rattle.matrix_market.specs.declared.WriteFault.TheVariants.{Short, Sizes}
+use Rattle.matrix_market.specs.Sizes.{in_bounds, place}
 use Rattle.matrix_market.specs.Layout.{Bytes, Matrix, parse, text}
 
-abbrev pub place : ℕ → ℕ → ℕ
-place m k = 32 * (k % m) + k / m
+abbrev pub stored : Result ℤ (Option ElementFault) → Result Integer (Option ElementFault)
+stored (Ok x) = Ok (record { value = x })
+stored (Err e) = Err e
 
 abbrev pub placed : ℕ → ℕ → List ℤ → List Integer → List Integer
 placed m k [] t = t
@@ -41,9 +43,6 @@ loaded (Err e) t = (Err e, t)
 abbrev pub reading : Bytes → List Integer → Result (ℕ × ℕ) ReadFault × List Integer
 reading bs t = loaded (cond (nat_le 1024 (length t)) (parse bs) (Err read.Short)) t
 
-abbrev pub Bounded : ℕ → ℕ → Type 0
-Bounded m n = (m ≤ 32) × (1 ≤ n) × (n ≤ 32)
-
 pub record Appends (at : ℕ) (bs was : Bytes) (r : ℕ) (is : Bytes) : Type 0 where
   pub end : r ≡ at + length bs
   pub front : take r is ≡ take at was ++ bs
@@ -52,7 +51,7 @@ pub record Appends (at : ℕ) (bs was : Bytes) (r : ℕ) (is : Bytes) : Type 0 w
 abbrev pub refusal : ℕ → ℕ → List Integer → Bytes → Option WriteFault
 refusal m n t out =
     cond (nat_le 12288 (length out) && nat_le 1024 (length t))
-    (cond (nat_le m 32 && (nat_le 1 n && nat_le n 32)) None (Some Sizes))
+    (cond (in_bounds m n) None (Some Sizes))
     (Some Short)
 
 abbrev pub Wrote : ℕ → ℕ → List Integer → Bytes → Result ℕ WriteFault → Bytes → Type 0

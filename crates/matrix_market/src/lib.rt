@@ -1,4 +1,4 @@
-// Matrix Market files in array form: a reader into a lent table of integers, and a writer out of one.
+// Matrix Market files in array form: a reader into a lent table of integers, and a writer from one.
 #![tactic(auto)]
 
 ghost use Rattle.std.specs.Prelude.{◌≡◌};
@@ -10,6 +10,7 @@ mod header;
 mod lines;
 mod numbers;
 mod reader;
+mod sizes;
 mod writer;
 
 pub use reader::read;
@@ -40,7 +41,7 @@ pub enum WriteFault {
 }
 
 impl ReadFault {
-    // The refusal's number.
+    // The refusal's number, by which the rules name it.
     pub fn number(self) -> u8
         ensures { result ≡ read_number self }
     {
@@ -55,7 +56,7 @@ impl ReadFault {
 }
 
 impl WriteFault {
-    // The refusal's number.
+    // The refusal's number, by which the rules name it.
     pub fn number(self) -> u8
         ensures { result ≡ write_number self }
     {

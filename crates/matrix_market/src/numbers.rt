@@ -1,14 +1,16 @@
 // Numbers written in decimal digits.
-ghost use Rattle.std.specs.Prelude.{◌≡◌, ◌≤◌};
+ghost use Rattle.std.specs.Prelude.{◌≡◌, ◌^◌, ◌<◌, ◌≤◌, IfSome};
 ghost use Rattle.matrix_market.specs.Layout as layout;
+ghost use Rattle.matrix_market.specs.Stored.{stored};
 
-use integers::LIMIT;
+use integers::Integer;
 use kinds::ElementFault;
 
 // The number that 1 to `most` digits write.
 pub(crate) fn digits(most: usize, ds: &[u8]) -> Option<u64>
     requires { most ≤ 18 }
-    ensures { result ≡ layout.digits most ds.now }
+    ensures value { result ≡ layout.digits most ds.now }
+    ensures bound { IfSome result (λ n. n < 10 ^ 18) }
 {
     if ds.is_empty() || ds.len() > most {
         return None;
@@ -18,34 +20,24 @@ pub(crate) fn digits(most: usize, ds: &[u8]) -> Option<u64>
         if !c.is_ascii_digit() {
             return None;
         }
-        n = 10 * n + (*c - b'0') as u64;
+        n = 10 * n + u64::from(*c - b'0');
     }
     Some(n)
 }
 
-// The integer of a sign and 1 to 18 digits.
-fn ranged(minus: bool, ds: &[u8]) -> Result<i32, Option<ElementFault>>
-    ensures { result ≡ layout.ranged minus (layout.digits 18 ds.now) }
+// The element that holds z.
+fn element(z: i64) -> Result<Integer, Option<ElementFault>>
+    ensures { result ≡ stored (layout.in_range z) }
 {
-    match digits(18, ds) {
-        None => Err(None),
-        Some(n) => {
-            if n > LIMIT as u64 {
-                return Err(Some(ElementFault::Range));
-            }
-            let x = n as i32;
-            Ok(if minus { -x } else { x })
-        }
-    }
+    Integer::try_from(z).map_err(Some)
 }
 
 // The integer that `field` writes.
-pub(crate) fn integer(field: &[u8]) -> Result<i32, Option<ElementFault>>
-    ensures { result ≡ layout.integer field.now }
+pub(crate) fn integer(field: &[u8]) -> Result<Integer, Option<ElementFault>>
+    ensures { result ≡ stored (layout.integer field.now) }
 {
     match field {
-        [] => Err(None),
-        [b'-', ds @ ..] => ranged(true, ds),
-        [_, ..] => ranged(false, field),
+        [b'-', ds @ ..] => element(-(digits(18, ds).ok_or(None)? as i64)),
+        _ => element(digits(18, field).ok_or(None)? as i64),
     }
 }

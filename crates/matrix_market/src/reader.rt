@@ -1,83 +1,74 @@
 // The reader: a text into a lent table.
-ghost use Rattle.std.specs.Prelude.{◌≡◌, ◌*◌, ◌≤◌, length, IfOk, Ok, Err, MatchResult};
+ghost use Rattle.std.specs.Prelude.{◌≡◌, ℕ, suc, ◌≤◌, length, IfOk, Ok, Err, MatchResult};
 ghost use Rattle.matrix_market.specs.Layout as layout;
-ghost use Rattle.matrix_market.specs.Stored.{filled, reading, Bounded};
+ghost use Rattle.matrix_market.specs.Layout.{before, entries};
+ghost use Rattle.matrix_market.specs.Sizes.{Bounded};
+ghost use Rattle.matrix_market.specs.Stored.{reading, stored};
+ghost use Rattle.matrix_market.specs.Reader.{filled_by, left, matrix_of, value_of};
 
 use crate::ReadFault;
 use crate::header::*;
 use crate::lines::*;
 use crate::numbers::integer;
+use crate::sizes::Sizes;
 use integers::Integer;
+use kinds::ElementFault;
 
-// The sizes, the number of the line after the size line, and the text from there on.
+// The entry that `line` gives.
+fn entry(line: &[u8]) -> Result<Integer, Option<ElementFault>>
+    ensures { result ≡ stored (layout.entry (layout.fields line.now)) }
+{
+    integer(only_field(line).ok_or(None)?)
+}
+
+// The entry that the next line gives.
+fn next_entry(lines: &mut Lines) -> Result<Integer, ReadFault>
+    ensures { (c : ℕ) → entries lines.old.number (suc c) (left lines.old)
+        ≡ before (value_of result) (entries lines.new.number c (left lines.new)) }
+{
+    let at = lines.number;
+    let line = lines.next_line().ok_or(ReadFault::Entry(at, None))?;
+    entry(line).map_err(|inner| ReadFault::Entry(at, inner))
+}
+
+// The sizes, and the lines of the entries.
 #[derive(Clone, Copy)]
 struct Body<'a> {
-    m: usize,
-    n: usize,
-    at: usize,
-    text: &'a [u8],
+    sizes: Sizes,
+    lines: Lines<'a>,
 }
 
-// Passes the comments and reads the size line, from line 2 on.
-fn open_body(text: &[u8]) -> Result<Body, ReadFault>
-    requires { length (layout.lines text.now) ≤ 65536 }
-    ensures value { MatchResult result (λ b. layout.body 2 (layout.lines text.now) ≡ layout.shaped b.m b.n (layout.entries b.at (b.m * b.n) (layout.lines b.text.now))) (λ e. layout.body 2 (layout.lines text.now) ≡ Err e) }
-    ensures bound { IfOk result (λ b. Bounded b.m b.n × (b.at ≤ 65538)) }
-{
-    let mut rest = text;
-    let mut at = 2;
-    while let Some((line, after)) = next_line(rest) {
-        if !is_comment(line) {
-            let Some((m, n)) = sizes(line) else {
-                return Err(ReadFault::SizeLine(at));
-            };
-            return Ok(Body {
-                m,
-                n,
-                at: at + 1,
-                text: after,
-            });
+impl<'a> Body<'a> {
+    // Passes the comments and reads the size line.
+    fn open(mut lines: Lines<'a>) -> Result<Self, ReadFault>
+        ensures { matrix_of result ≡ layout.body lines.entry.number (left lines.entry) }
+    {
+        loop {
+            let at = lines.number;
+            let line = lines.next_line().ok_or(ReadFault::SizeLine(at))?;
+            if !is_comment(line) {
+                let sizes = sizes(line).ok_or(ReadFault::SizeLine(at))?;
+                return Ok(Body { sizes, lines });
+            }
         }
-        rest = after;
-        at += 1;
     }
-    Err(ReadFault::SizeLine(at))
-}
 
-// The entry that `line`, of the number `at`, gives.
-fn entry(line: &[u8], at: usize) -> Result<i32, ReadFault>
-    ensures { result ≡ layout.entry at (layout.fields line.now) }
-{
-    let Some((field, rest)) = next_field(line) else {
-        return Err(ReadFault::Entry(at, None));
-    };
-    if next_field(rest).is_some() {
-        return Err(ReadFault::Entry(at, None));
-    }
-    match integer(field) {
-        Ok(x) => Ok(x),
-        Err(inner) => Err(ReadFault::Entry(at, inner)),
-    }
-}
-
-// Reads the m·n entries from line `at` on into their places.
-fn fill(text: &[u8], at: usize, m: usize, n: usize, table: &mut [Integer]) -> Result<(), ReadFault>
-    requires { (m ≤ 32) × ((n ≤ 32) × ((1024 ≤ length table.old) × (at ≤ 65538))) }
-    ensures { MatchResult result (λ _. filled m 0 table.old (layout.entries at (m * n) (layout.lines text.now)) ≡ Ok table.new) (λ e. filled m 0 table.old (layout.entries at (m * n) (layout.lines text.now)) ≡ Err e) }
-{
-    let mut rest = text;
-    for k in 0..m * n {
-        let Some((line, after)) = next_line(rest) else {
-            return Err(ReadFault::Entry(at + k, None));
-        };
-        let x = entry(line, at + k)?;
-        table[32 * (k % m) + k / m] = Integer { value: x };
-        rest = after;
-    }
-    if rest.is_empty() {
-        Ok(())
-    } else {
-        Err(ReadFault::LeftOver(at + m * n))
+    // Reads the entries into their places.
+    fn fill(&self, table: &mut [Integer]) -> Result<(), ReadFault>
+        requires { 1024 ≤ length table.old }
+        ensures { MatchResult result
+            (λ _. filled_by self.now table.old ≡ Ok table.new)
+            (λ e. filled_by self.now table.old ≡ Err e) }
+    {
+        let mut lines = self.lines;
+        for k in 0..self.sizes.count() {
+            table[self.sizes.place(k)] = next_entry(&mut lines)?;
+        }
+        let at = lines.number;
+        match lines.next_line() {
+            None => Ok(()),
+            Some(_) => Err(ReadFault::LeftOver(at)),
+        }
     }
 }
 
@@ -94,16 +85,14 @@ pub fn read(text: &[u8], table: &mut [Integer]) -> Result<(usize, usize), ReadFa
     if text.len() > 65536 {
         return Err(ReadFault::LeftOver(1));
     }
-    let Some((line, rest)) = next_line(text) else {
-        return Err(ReadFault::Header(1));
-    };
-    if !is_header(line) {
+    let mut lines = Lines::new(text);
+    if !lines.next_line().is_some_and(is_header) {
         return Err(ReadFault::Header(1));
     }
-    let body = open_body(rest)?;
+    let body = Body::open(lines)?;
     // every refusal comes before the lent table is written
     let mut scratch = [Integer { value: 0 }; 1024];
-    fill(body.text, body.at, body.m, body.n, &mut scratch)?;
-    fill(body.text, body.at, body.m, body.n, table)?;
-    Ok((body.m, body.n))
+    body.fill(&mut scratch)?;
+    body.fill(table)?;
+    Ok((body.sizes.m, body.sizes.n))
 }
