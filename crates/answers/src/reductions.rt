@@ -1,7 +1,7 @@
 // Reductions of integer matrices: counts of steps, diagonals and refusals.
 use integers::Integer;
 use kinds::ElementFault;
-use presentation::{CallFault, Open, Run, Step, Table, TableFault, open};
+use presentation::{CallFault, Run, Step, Table, TableFault, Transform, open};
 use std::test::Fail;
 
 // What becomes of a matrix: the steps taken and the diagonal of the worktable, or why not.
@@ -28,26 +28,6 @@ fn row(r: &[i32; 5]) -> [Integer; 5] {
     ]
 }
 
-// Adds rows to a presentation.
-fn add_rows(
-    state: Open,
-    rows: &[[i32; 5]],
-    a: &mut [Integer],
-    w: &mut [Integer],
-    p: &mut [Integer],
-    p_inverse: &mut [Integer],
-    q: &[Integer],
-) -> Result<Open, CallFault> {
-    let mut state = state;
-    for r in rows {
-        state = match state.add(&row(r), a, w, p, p_inverse, q) {
-            Ok(state) => state,
-            Err(refused) => return Err(refused.1),
-        };
-    }
-    Ok(state)
-}
-
 // The outcome of rows of n entries under a budget.
 fn reduced(n: usize, rows: &[[i32; 5]], budget: u32) -> Outcome {
     let mut a = [integer(0); 1024];
@@ -56,28 +36,31 @@ fn reduced(n: usize, rows: &[[i32; 5]], budget: u32) -> Outcome {
     let mut p_inverse = [integer(0); 1024];
     let mut q = [integer(0); 1024];
     let mut q_inverse = [integer(0); 1024];
-    let state = match open(n, &mut q, &mut q_inverse) {
+    let mut left = Transform {
+        matrix: &mut p,
+        inverse: &mut p_inverse,
+    };
+    let mut right = Transform {
+        matrix: &mut q,
+        inverse: &mut q_inverse,
+    };
+    let mut state = match open(n, &mut right) {
         Ok(state) => state,
         Err(fault) => return Outcome::NotAdded(fault),
     };
-    let state = match add_rows(state, rows, &mut a, &mut w, &mut p, &mut p_inverse, &q) {
-        Ok(state) => state,
-        Err(fault) => return Outcome::NotAdded(fault),
-    };
-    match state.run(
-        budget,
-        &mut w,
-        &mut p,
-        &mut p_inverse,
-        &mut q,
-        &mut q_inverse,
-    ) {
-        Run::Done(_, count) => Outcome::Done(
+    for r in rows {
+        state = match state.add(&row(r), &mut a, &mut w, &mut left, right.matrix) {
+            Ok(state) => state,
+            Err((_, fault)) => return Outcome::NotAdded(fault),
+        };
+    }
+    match state.run(budget, &mut w, &mut left, &mut right) {
+        Ok(Run::Done(_, count)) => Outcome::Done(
             count,
             [w[0].value, w[33].value, w[66].value, w[99].value],
         ),
-        Run::Spent(_, count) => Outcome::Spent(count),
-        Run::Refused(_, count, fault) => Outcome::Refused(count, fault),
+        Ok(Run::Spent(_, count)) => Outcome::Spent(count),
+        Err((_, count, fault)) => Outcome::Refused(count, fault),
     }
 }
 
@@ -183,32 +166,32 @@ fn refused_relation(rt: HostRuntime) -> Result<(), Fail> {
     let mut p_inverse = [integer(0); 1024];
     let mut q = [integer(0); 1024];
     let mut q_inverse = [integer(0); 1024];
-    let Ok(state) = open(2, &mut q, &mut q_inverse) else {
+    let mut left = Transform {
+        matrix: &mut p,
+        inverse: &mut p_inverse,
+    };
+    let mut right = Transform {
+        matrix: &mut q,
+        inverse: &mut q_inverse,
+    };
+    let Ok(state) = open(2, &mut right) else {
         return Err(Fail::new("open"));
     };
     let Ok(state) = state.add(
         &[integer(1), integer(1)],
         &mut a,
         &mut w,
-        &mut p,
-        &mut p_inverse,
-        &q,
+        &mut left,
+        right.matrix,
     ) else {
         return Err(Fail::new("add"));
     };
-    let Run::Done(state, count) = state.run(
-        9,
-        &mut w,
-        &mut p,
-        &mut p_inverse,
-        &mut q,
-        &mut q_inverse,
-    ) else {
+    let Ok(Run::Done(state, count)) = state.run(9, &mut w, &mut left, &mut right) else {
         return Err(Fail::new("run"));
     };
     assert_eq!(rt; count, 2);
     let far = [integer(536870911), integer(-536870911)];
-    let Err(refused) = state.add(&far, &mut a, &mut w, &mut p, &mut p_inverse, &q) else {
+    let Err((_, refused)) = state.add(&far, &mut a, &mut w, &mut left, right.matrix) else {
         return Err(Fail::new("added"));
     };
     let fault = TableFault {
@@ -217,7 +200,7 @@ fn refused_relation(rt: HostRuntime) -> Result<(), Fail> {
         column: 1,
         fault: ElementFault::Range,
     };
-    assert_eq!(rt; refused.1, CallFault::InTable(fault));
+    assert_eq!(rt; refused, CallFault::InTable(fault));
     assert!(rt; a[33].value == 0 && w[32].value == 0 && p[33].value == 0);
     Ok(())
 }
@@ -231,20 +214,31 @@ fn refused_step(rt: HostRuntime) -> Result<(), Fail> {
     let mut p_inverse = [integer(0); 1024];
     let mut q = [integer(0); 1024];
     let mut q_inverse = [integer(0); 1024];
-    let Ok(state) = open(1, &mut q, &mut q_inverse) else {
+    let mut left = Transform {
+        matrix: &mut p,
+        inverse: &mut p_inverse,
+    };
+    let mut right = Transform {
+        matrix: &mut q,
+        inverse: &mut q_inverse,
+    };
+    let Ok(state) = open(1, &mut right) else {
         return Err(Fail::new("open"));
     };
-    let Ok(state) = state.add(&[integer(-3)], &mut a, &mut w, &mut p, &mut p_inverse, &q) else {
+    let Ok(state) = state.add(&[integer(-3)], &mut a, &mut w, &mut left, right.matrix) else {
         return Err(Fail::new("add"));
     };
     let mut short = [integer(0); 1023];
-    let Step::Refused(state, fault) = state.step(&mut w, &mut p, &mut p_inverse, &mut q, &mut short)
-    else {
+    let mut lacking = Transform {
+        matrix: right.matrix,
+        inverse: &mut short,
+    };
+    let Err((state, fault)) = state.step(&mut w, &mut left, &mut lacking) else {
         return Err(Fail::new("stepped"));
     };
     assert_eq!(rt; fault, CallFault::Short);
-    assert!(rt; w[0].value == -3 && p[0].value == 1);
-    let Step::Stepped(_) = state.step(&mut w, &mut p, &mut p_inverse, &mut q, &mut q_inverse) else {
+    assert!(rt; w[0].value == -3 && left.matrix[0].value == 1);
+    let Ok(Step::Stepped(_)) = state.step(&mut w, &mut left, &mut right) else {
         return Err(Fail::new("not stepped"));
     };
     assert!(rt; w[0].value == 3 && p[0].value == -1 && p_inverse[0].value == -1);

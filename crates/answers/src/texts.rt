@@ -1,18 +1,14 @@
 // From text to text: what the program answers of a file.
-use calculator::{Answer, smith};
+use calculator::{Refusal, smith};
 use std::process::Abort;
 use std::test::Fail;
 
 // Whether the form of `text` is `form`.
 fn gives(rt: &(impl Abort + AllocGlobal), text: &[u8], form: &[u8]) -> Result<(), Fail> {
-    let mut out = vec![in rt.alloc(); 0u8; 12288]?;
-    let Answer::Form(len) = smith(rt.alloc(), text, &mut out)? else {
+    let Ok(given) = smith(rt.alloc(), text) else {
         return Err(Fail::new("no form"));
     };
-    assert!(rt; len == form.len());
-    for k in 0..form.len() {
-        assert!(rt; out[k] == form[k]);
-    }
+    assert!(rt; given.as_slice() == form);
     Ok(())
 }
 
@@ -35,37 +31,50 @@ fn forms(rt: HostRuntime) -> Result<(), Fail> {
     )
 }
 
+// Whether `text` is refused by this number, and told as `line`.
+fn refuses(
+    rt: &(impl Abort + AllocGlobal),
+    text: &[u8],
+    number: u8,
+    line: &str,
+) -> Result<(), Fail> {
+    let Err(refusal) = smith(rt.alloc(), text) else {
+        return Err(Fail::new("no refusal"));
+    };
+    assert_eq!(rt; refusal.number(), Some(number));
+    assert!(rt; format!(in rt.alloc(); "{refusal}")?.as_str() == line);
+    Ok(())
+}
+
 #[test]
 fn refusals(rt: HostRuntime) -> Result<(), Fail> {
-    let mut out = vec![in rt.alloc(); 7u8; 12288]?;
-    assert_eq!(rt; smith(rt.alloc(), b"", &mut out)?, Answer::Refused(10));
-    assert_eq!(rt;
-        smith(
-            rt.alloc(),
-            b"%%MatrixMarket matrix array integer general\n",
-            &mut out,
-        )?,
-        Answer::Refused(11)
-    );
-    assert_eq!(rt;
-        smith(
-            rt.alloc(),
-            b"%%MatrixMarket matrix array integer general\n1 1\n536870912\n",
-            &mut out,
-        )?,
-        Answer::Refused(12)
-    );
-    assert_eq!(rt;
-        smith(
-            rt.alloc(),
-            b"%%MatrixMarket matrix array integer general\n1 1\n1\n\n",
-            &mut out,
-        )?,
-        Answer::Refused(13)
-    );
+    refuses(&rt, b"", 10, "refused 10")?;
+    refuses(
+        &rt,
+        b"%%MatrixMarket matrix array integer general\n",
+        11,
+        "refused 11",
+    )?;
+    refuses(
+        &rt,
+        b"%%MatrixMarket matrix array integer general\n1 1\n536870912\n",
+        12,
+        "refused 12",
+    )?;
+    refuses(
+        &rt,
+        b"%%MatrixMarket matrix array integer general\n1 1\n1\n\n",
+        13,
+        "refused 13",
+    )?;
     let past = b"%%MatrixMarket matrix array integer general\n2 2\n1\n-268435456\n1\n268435456\n";
-    assert_eq!(rt; smith(rt.alloc(), past, &mut out)?, Answer::Refused(1));
-    assert!(rt; out.len() == 12288);
-    assert_eq!(rt; out[0], 7);
+    refuses(&rt, past, 1, "refused 1")
+}
+
+// A spent budget has no number.
+#[test]
+fn spent(rt: HostRuntime) -> Result<(), Fail> {
+    assert_eq!(rt; Refusal::Spent.number(), None);
+    assert!(rt; format!(in rt.alloc(); "{}", Refusal::Spent)?.as_str() == "spent 100000");
     Ok(())
 }

@@ -1,35 +1,31 @@
 -- What the calculator answers.
 --
---   zeros        a table of zeros
---   Within       a form has at most k bytes
---   Reduced      what a reduction answers: a form of a length within the buffer, or nothing is written
---   Answered     what is answered once the reader has answered
---   Answering    a text that is no matrix is refused by the reader's number, and any other is reduced
-use Rattle.std.specs.Prelude.{◌≡◌, ℕ, ◌≤◌, List, length, replicate, pos, Ok, Err, Result}
+--   zeros       a table of zeros
+--   Afterwards  what may be answered once a matrix was read: anything but a refusal of the reader
+--   Answering   what is answered of a text: the reader's refusal, and nothing but that, where it is no matrix; want of
+--               memory says nothing of the text
+use Rattle.std.specs.Prelude.{◌≡◌, List, replicate, pos, Ok, Err, Result, IsOk}
 use Rattle.integers.specs.declared.Integer.{Integer}
 use Rattle.matrix_market.specs.Layout.{Bytes}
-use Rattle.matrix_market.specs.Numbered.{read_number}
 use Rattle.matrix_market.specs.Stored.{reading}
-use Rattle.matrix_market.specs.declared.ReadFault.{ReadFault}
-use Rattle.calculator.specs.declared.Answer.{Answer}
-use Rattle.calculator.specs.declared.Answer.TheVariants.{Form, Spent, Refused}
+use Rattle.calculator.specs.declared.refusal.Refusal.{Refusal}
+use Rattle.calculator.specs.declared.refusal.Refusal.TheVariants.{Memory, Read, Call, Write, Spent}
 
 abbrev pub zeros : List Integer
 zeros = replicate 1024 (record { value = pos 0 })
 
-abbrev pub Within : ℕ → Answer → Type 0
-Within k (Form len) = len ≤ k
-Within k Spent = Unit {0}
-Within k (Refused number) = Unit {0}
+abbrev pub Afterwards : {X : Type 0} → Result X Refusal → Type 0
+Afterwards (Ok x) = Unit {0}
+Afterwards (Err (Memory e)) = Unit {0}
+Afterwards (Err (Read fault)) = ⊥
+Afterwards (Err (Call fault)) = Unit {0}
+Afterwards (Err (Write fault)) = Unit {0}
+Afterwards (Err Spent) = Unit {0}
 
-abbrev pub Reduced : Bytes → Bytes → Answer → Type 0
-Reduced old new (Form len) = len ≤ length old
-Reduced old new Spent = new ≡ old
-Reduced old new (Refused k) = new ≡ old
-
-abbrev pub Answered : Result (ℕ × ℕ) ReadFault → Bytes → Bytes → Answer → Type 0
-Answered (Ok sizes) old new answer = Reduced old new answer
-Answered (Err fault) old new answer = (answer ≡ Refused (read_number fault)) × (new ≡ old)
-
-abbrev pub Answering : Bytes → Bytes → Bytes → Answer → Type 0
-Answering text old new answer = Answered (reading text zeros).0 old new answer
+abbrev pub Answering : {X : Type 0} → Bytes → Result X Refusal → Type 0
+Answering text (Ok form) = IsOk (reading text zeros).0
+Answering text (Err (Memory e)) = Unit {0}
+Answering text (Err (Read fault)) = (reading text zeros).0 ≡ Err fault
+Answering text (Err (Call fault)) = IsOk (reading text zeros).0
+Answering text (Err (Write fault)) = IsOk (reading text zeros).0
+Answering text (Err Spent) = IsOk (reading text zeros).0

@@ -4,24 +4,22 @@ use crate::gaussian::gaussian;
 use bit_polynomials::BitPolynomial;
 use gaussian_integers::GaussianInteger;
 use kinds::Euclid;
-use presentation::{Run, open};
+use presentation::{Run, Transform, open};
 
 // The steps of a reduction of some relations of two generators, over any kind; none if it is refused or not done.
 fn steps<E: Euclid>(
     relations: &[[E; 2]],
     a: &mut [E],
     w: &mut [E],
-    p: &mut [E],
-    p_inverse: &mut [E],
-    q: &mut [E],
-    q_inverse: &mut [E],
+    left: &mut Transform<'_, E>,
+    right: &mut Transform<'_, E>,
 ) -> Option<u32> {
-    let mut state = open(2, q, q_inverse).ok()?;
+    let mut state = open(2, right).ok()?;
     for row in relations {
-        state = state.add(row, a, w, p, p_inverse, q).ok()?;
+        state = state.add(row, a, w, left, right.matrix).ok()?;
     }
-    match state.run(100, w, p, p_inverse, q, q_inverse) {
-        Run::Done(_, count) => Some(count),
+    match state.run(100, w, left, right) {
+        Ok(Run::Done(_, count)) => Some(count),
         _ => None,
     }
 }
@@ -31,7 +29,7 @@ fn parts(x: &GaussianInteger) -> (i32, i32) {
 }
 
 // The steps over the Gaussian integers, and the first two rows of the worktable. One function for this and the next does
-// not prove: nothing says that 1,024 elements of a type parameter fit in memory.
+// not prove: nothing says that 1,024 elements of a type parameter fit in memory, and `vec!` of one is not covered.
 fn gaussian_reduced(relations: &[[GaussianInteger; 2]]) -> (Option<u32>, [[(i32, i32); 2]; 2]) {
     let zero = gaussian((0, 0));
     let mut a = [zero; 1024];
@@ -40,15 +38,15 @@ fn gaussian_reduced(relations: &[[GaussianInteger; 2]]) -> (Option<u32>, [[(i32,
     let mut p_inverse = [zero; 1024];
     let mut q = [zero; 1024];
     let mut q_inverse = [zero; 1024];
-    let count = steps(
-        relations,
-        &mut a,
-        &mut w,
-        &mut p,
-        &mut p_inverse,
-        &mut q,
-        &mut q_inverse,
-    );
+    let mut left = Transform {
+        matrix: &mut p,
+        inverse: &mut p_inverse,
+    };
+    let mut right = Transform {
+        matrix: &mut q,
+        inverse: &mut q_inverse,
+    };
+    let count = steps(relations, &mut a, &mut w, &mut left, &mut right);
     let rows = [[parts(&w[0]), parts(&w[1])], [parts(&w[32]), parts(&w[33])]];
     (count, rows)
 }
@@ -62,15 +60,15 @@ fn bits_reduced(relations: &[[BitPolynomial; 2]]) -> (Option<u32>, [[u32; 2]; 2]
     let mut p_inverse = [zero; 1024];
     let mut q = [zero; 1024];
     let mut q_inverse = [zero; 1024];
-    let count = steps(
-        relations,
-        &mut a,
-        &mut w,
-        &mut p,
-        &mut p_inverse,
-        &mut q,
-        &mut q_inverse,
-    );
+    let mut left = Transform {
+        matrix: &mut p,
+        inverse: &mut p_inverse,
+    };
+    let mut right = Transform {
+        matrix: &mut q,
+        inverse: &mut q_inverse,
+    };
+    let count = steps(relations, &mut a, &mut w, &mut left, &mut right);
     let rows = [[w[0].bits, w[1].bits], [w[32].bits, w[33].bits]];
     (count, rows)
 }

@@ -3,3 +3,4 @@ pub mod Updates
 pub mod Scans
 pub mod Products
 pub mod Steps
+pub mod Accepting

@@ -1,19 +1,22 @@
 -- Looking through the rest of a worktable by rows and then columns.
-use Rattle.std.proofs.Common.{◌≡◌, ℕ, ◌+◌, ◌*◌, ◌<◌, ◌≤◌, Bool, true, false, ◌⊎◌, List, length, get_or, Some, None, Decides, Option, sym, refl, ap, ◌∙◌, subst, inl, inr, arith}
+use Rattle.std.proofs.Common.{◌-◌, MatchOption, ◌≡◌, ◌≢◌, ℕ, ◌+◌, ◌<◌, ◌≤◌, Bool, true, false, ◌⊎◌, List, length, get_or, Some, None, Decides, Option, sym, ap, ◌∙◌, subst, inl, inr, arith}
 use Rattle.std.proofs.lemmas.Bool.{cases_lt}
+use Rattle.std.proofs.lemmas.List.FromFn.{length-range_with_len, get_or-range_with_len}
+use Rattle.std.specs.List.{AllWithin, HoldsAt, range_with_len}
 use Rattle.kinds.specs.Laws.{SizeLaws}
 use Rattle.kinds.specs.Model.{Model}
-use Rattle.presentation.specs.declared.prescribe.Shape.{Shape}
-use Rattle.presentation.proofs.Tables.{meant_read}
-use Rattle.presentation.specs.Rests.{In, Earlier, member, Pivotal, Better}
+use Rattle.presentation.specs.declared.table.Axis.{Axis}
+use Rattle.presentation.specs.Places.{place, meant}
+use Rattle.presentation.specs.Rests.{In, Earlier, member, Pivotal, Better, Zeros, FirstNonzero}
+use Rattle.presentation.specs.Shapes.{Shape, shape}
+
+-- what the numbers of a presentation are, from how a contract sees it
+pub numbers : {a b c : ℕ} {s : Shape} → shape a b c ≡ s → (a ≡ s.m) × (b ≡ s.n) × (c ≡ s.c)
+numbers e = (ap (λ s. s.m) e, ap (λ s. s.n) e, ap (λ s. s.c) e)
 
 -- P holds of every entry of the rest before (i, j)
 abbrev pub Seen : Shape → ℕ → ℕ → (ℕ → ℕ → Type 0) → Type 0
 Seen s i j P = (a b : ℕ) → In s a b → Earlier i j a b → P a b
-
-pub seen_none : (s : Shape) (P : ℕ → ℕ → Type 0) → Seen s s.c s.c P
-seen_none s P a b h (inl e) = absurd (omega (arith, h.row_from))
-seen_none s P a b h (inr e) = absurd (omega (arith, h.column_from, e.1))
 
 pub seen_more : (s : Shape) (i j : ℕ) (P : ℕ → ℕ → Type 0) → Seen s i j P → P i j → Seen s i (j + 1) P
 seen_more s i j P before here a b h (inl e) = before a b h (inl e)
@@ -23,14 +26,6 @@ seen_more s i j P before here a b h (inr e) = go (cases_lt b j)
     go (inl l) = before a b h (inr (e.0, l))
     go (inr l) = let eb : j ≡ b = omega (arith, e.1) in subst (λ x. P x b) (sym e.0) (subst (λ y. P i y) eb here)
 
-pub seen_row : (s : Shape) (i j : ℕ) (P : ℕ → ℕ → Type 0) → s.n ≤ j → Seen s i j P → Seen s (i + 1) s.c P
-seen_row s i j P n before a b h (inr e) = absurd (omega (arith, h.column_from, e.1))
-seen_row s i j P n before a b h (inl e) = go (cases_lt a i)
-  where
-    go : (a < i) ⊎ (i ≤ a) → P a b
-    go (inl l) = before a b h (inl l)
-    go (inr l) = before a b h (inr (omega (arith, e), omega (arith, h.column_below)))
-
 pub within : (s : Shape) (i j : ℕ) → s.c ≤ i → i < s.m → s.c ≤ j → j < s.n → In s i j
 within s i j a b c d = record { row_from = a; row_below = b; column_from = c; column_below = d }
 
@@ -38,33 +33,25 @@ module _ {E S : Type 0} (m : Model E S) (s : Shape) (w : List E) where
   abbrev Zero : ℕ → ℕ → Type 0
   Zero a b = member m w a b ≡ m.ring.zero
 
-  -- the least entry before (i, j): with none yet, all are zero
-  abbrev pub SoFar : ℕ → ℕ → ℕ → Option (ℕ × ℕ) → Type 0
-  SoFar i j size None = (size ≡ 0) × Seen s i j Zero
-  SoFar i j size (Some p) = Pivotal m s w p.0 p.1
+  -- the least entry before (i, j), with its size: with none yet, all are zero
+  abbrev pub SoFar : ℕ → ℕ → Option (ℕ × (ℕ × ℕ)) → Type 0
+  SoFar i j None = Seen s i j Zero
+  SoFar i j (Some p) = Pivotal m s w p.1.0 p.1.1
 
-  pub none_so_far : SoFar s.c s.c 0 None
-  none_so_far = (refl, seen_none s Zero)
+  positive : (size : ℕ) (least : Option (ℕ × (ℕ × ℕ))) → Better size least → 0 < size
+  positive size None good = good
+  positive size (Some least) good = good.0
 
-  pub better : (laws : SizeLaws m) (i j size least : ℕ) → In s i j → size ≡ m.size (member m w i j) → Better size least → (a b : ℕ) → SoFar a b size (Some (i, j))
-  better laws i j size least inside e good a b = record { inside = inside; not_zero = λ z. omega (arith, good.0, e ∙ ap m.size z ∙ laws.size_zero) }
+  pub better : (laws : SizeLaws m) (i j size : ℕ) (least : Option (ℕ × (ℕ × ℕ))) → In s i j → size ≡ m.size (member m w i j) → Better size least → Pivotal m s w i j
+  better laws i j size least inside e good = record { inside = inside; not_zero = λ z. omega (arith, positive size least good, e ∙ ap m.size z ∙ laws.size_zero) }
 
-  no_better : (laws : SizeLaws m) (i j here size : ℕ) (least : Option (ℕ × ℕ)) → here ≡ m.size (member m w i j) → (Better here size → ⊥)
-      → SoFar i j size least → SoFar i (j + 1) size least
-  no_better laws i j here size None e worse (z, seen) = (z, seen_more s i j Zero seen (go (cases_lt 0 here)))
+  pub no_better : (laws : SizeLaws m) (i j size : ℕ) (least : Option (ℕ × (ℕ × ℕ))) → size ≡ m.size (member m w i j) → (Better size least → ⊥) → SoFar i j least → SoFar i (j + 1) least
+  no_better laws i j size None e worse seen = seen_more s i j Zero seen (go (cases_lt 0 size))
     where
-      go : (0 < here) ⊎ (here ≤ 0) → Zero i j
-      go (inl l) = absurd (worse (l, inl z))
+      go : (0 < size) ⊎ (size ≤ 0) → Zero i j
+      go (inl l) = absurd (worse l)
       go (inr l) = laws.zero_size (member m w i j) (sym e ∙ omega (arith, l))
-  no_better laws i j here size (Some p) e worse found = found
-
-  pub left_alone : (laws : SizeLaws m) (i j here size size' : ℕ) (least least' : Option (ℕ × ℕ)) → size' ≡ size → least' ≡ least
-      → here ≡ m.size (member m w i j) → (Better here size → ⊥) → SoFar i j size least → SoFar i (j + 1) size' least'
-  left_alone laws i j here size size' least least' es el e worse found = rw (es, el) (no_better laws i j here size least e worse found)
-
-  pub row_so_far : (i j size : ℕ) (least : Option (ℕ × ℕ)) → s.n ≤ j → SoFar i j size least → SoFar (i + 1) s.c size least
-  row_so_far i j size None h (z, seen) = (z, seen_row s i j Zero h seen)
-  row_so_far i j size (Some p) h found = found
+  no_better laws i j size (Some p) e worse found = found
 
 pub false_not_true : false ≡ true → ⊥
 false_not_true e = let z : ◌≡◌ {A = ℕ} 0 1 = cc in omega arith
@@ -73,7 +60,28 @@ false_not_true e = let z : ◌≡◌ {A = ℕ} 0 1 = cc in omega arith
 pub refuted : {P : Type 0} (r : Bool) → Decides r P → r ≡ false → P → ⊥
 refuted r d e p = false_not_true (sym e ∙ d.1 p)
 
--- the element that was read at the corner is not zero
-pub corner_not_zero : {E S : Type 0} (m : Model E S) (s : Shape) (w : List E) (x : E) → 32 * s.c + s.c < length w → x ≡ get_or w (32 * s.c + s.c) x
-    → Pivotal m s w s.c s.c → m.mean x ≡ m.ring.zero → ⊥
-corner_not_zero m s w x h r p e = p.not_zero (sym (meant_read m w (32 * s.c + s.c) x h r) ∙ e)
+-- what stands at the corner, as it was read, is not zero
+pub corner_not_zero : {E S : Type 0} (m : Model E S) (s : Shape) (w : List E) (x : m.Member) (a b c : ℕ) → shape a b c ≡ s → x ≡ member m w c c → Pivotal m s w s.c s.c → x ≢ m.ring.zero
+corner_not_zero m s w x a b c e r p z = p.not_zero (ap (λ c. member m w c c) (sym (numbers e).2) ∙ sym r ∙ z)
+
+-- what looking for the first nonzero entry after the corner came to
+module _ {E S : Type 0} (m : Model E S) (w : List E) (axis : Axis) (c len : ℕ) where
+  abbrev After : List ℕ
+  After = range_with_len (c + 1) (len - (c + 1))
+
+  abbrev ZeroAt : ℕ → Type 0
+  ZeroAt k = meant m w (place axis c k) ≡ m.ring.zero
+
+  zero_before : (i k : ℕ) → i ≤ len - (c + 1) → AllWithin ZeroAt After 0 i → c < k → k < c + 1 + i → ZeroAt k
+  zero_before i k l all a b =
+      let at : get_or After (k - (c + 1)) 0 ≡ k = get_or-range_with_len (c + 1) (len - (c + 1)) (k - (c + 1)) 0 (omega arith) ∙ omega arith in
+      subst ZeroAt at (all (k - (c + 1)) 0 (omega arith) (omega arith))
+
+  pub first_nonzero_found : (r : Option ℕ)
+      → MatchOption r (AllWithin ZeroAt After 0 (length After)) (λ x. (ZeroAt x → ⊥) × (i : ℕ) × (i < length After) × HoldsAt (λ y. y ≡ x) After i × AllWithin ZeroAt After 0 i)
+      → MatchOption r (Zeros m axis c len w) (λ k. FirstNonzero m axis c len w k)
+  first_nonzero_found None all = λ k a b. zero_before (length After) k (omega (arith, length-range_with_len (c + 1) (len - (c + 1)))) all a (omega (arith, length-range_with_len (c + 1) (len - (c + 1))))
+  first_nonzero_found (Some x) (not_zero, i, l, at, before) =
+      let il : i < len - (c + 1) = omega (arith, l, length-range_with_len (c + 1) (len - (c + 1))) in
+      let is : c + 1 + i ≡ x = sym (get_or-range_with_len (c + 1) (len - (c + 1)) i 0 il) ∙ at 0 in
+      record { after = omega arith; below = omega arith; before = λ k a b. zero_before i k (omega arith) before a (omega arith); not_zero = not_zero }

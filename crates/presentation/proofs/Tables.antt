@@ -1,6 +1,7 @@
 -- Writing rows and columns of a table, one entry after another.
-use Rattle.std.proofs.Common.{◌≡◌, ℕ, zero, suc, ◌+◌, ◌*◌, ◌<◌, ◌≤◌, ◌≢◌, ◌⊎◌, List, [], ◌∷◌, length, get_or, set, sym, refl, ap, ◌∙◌, inl, inr, le_of_suc-le-suc, not-suc-le-zero, arith, length-set, get_or-set_other, get_or-set_same, below_more}
-use Rattle.std.proofs.lemmas.List.{get_or_read}
+use borrow.Rule.Slice.PartMut.{put_mid}
+use Rattle.std.proofs.Common.{take, ◌-◌, ◌≡◌, ℕ, zero, suc, ◌+◌, ◌*◌, ◌<◌, ◌≤◌, ◌≢◌, ◌⊎◌, List, [], ◌∷◌, length, get_or, set, sym, refl, ap, ◌∙◌, inl, inr, le_of_suc-le-suc, not-suc-le-zero, arith, length-set, get_or-set_other, below_more}
+use Rattle.std.proofs.lemmas.List.{get_or-take, length-take-le, places}
 use Rattle.std.proofs.lemmas.Bool.{cases_lt}
 use Rattle.kinds.specs.Model.{Model}
 use Rattle.presentation.specs.declared.table.Axis.{Axis}
@@ -17,19 +18,26 @@ place_below Row i k p q = omega arith
 place_below Column i k p q = omega arith
 
 module _ {E : Type 0} where
-  pub written_none : (axis : Axis) (i : ℕ) (line old : List E) → Written axis i 0 line old old
-  written_none axis i line old = record { entries = λ k d h. absurd (omega arith); others = λ p d h. refl }
-
-  pub written_more : (axis : Axis) (i k at : ℕ) (line old t : List E) (x : E)
-      → i < 32 → k < 32 → 1024 ≤ length t → k < length line → at ≡ place axis i k → x ≡ get_or line k x
-      → Written axis i k line old t → Written axis i (k + 1) line old (set t at x)
-  written_more axis i k at line old t x il kl tl ll e rx inv = rw e record {
-    entries = λ j d h. below_more (λ j. get_or (set t (place axis i k) x) (place axis i j) d ≡ get_or line j d) k
-        (λ j l. let ne : place axis i j ≢ place axis i k = λ q. omega (arith, place_apart axis i i j k il il (omega arith) kl q) in rw get_or-set_other (inv.entries j d l))
-        (let lt : place axis i k < length t = omega (arith, place_below axis i k il kl) in rw get_or-set_same (get_or_read line k x ll rx d))
-        j h;
-    others = λ p d h. let ne : p ≢ place axis i k = h k (omega arith) in rw get_or-set_other (inv.others p d (λ j l. h j (omega arith)));
+  -- a row after a copy into its part of the table
+  pub row_copied : (i : ℕ) (line old ys : List E) → 1024 ≤ length old → i < 32 → length line ≤ 32 → ys ≡ line
+      → Written Row i (length line) line old (put_mid (32 * i) (32 * i + length line - 32 * i) old ys)
+  row_copied i line old ys long il nl e = rw e record {
+    entries = λ k d h. grind (arith, places);
+    others = λ p d h. go p d h (cases_lt p (32 * i)) (cases_lt p (32 * i + length line));
   }
+    where
+      go : (p : ℕ) (d : E) → ((k : ℕ) → k < length line → p ≢ 32 * i + k) → (p < 32 * i) ⊎ (32 * i ≤ p) → (p < 32 * i + length line) ⊎ (32 * i + length line ≤ p)
+          → get_or (put_mid (32 * i) (32 * i + length line - 32 * i) old line) p d ≡ get_or old p d
+      go p d h (inl l) m = grind (arith, places)
+      go p d h (inr l) (inl m) = absurd (h (p - 32 * i) (omega arith) (omega arith))
+      go p d h (inr l) (inr m) = grind (arith, places)
+
+  pub written_take : (axis : Axis) (i n : ℕ) (line old new : List E) → n ≤ length line → Written axis i (length (take n line)) (take n line) old new → Written axis i n line old new
+  written_take axis i n line old new h w =
+      let e = length-take-le n line h in record {
+        entries = λ k d l. w.entries k d (omega (arith, e)) ∙ get_or-take n line k d l;
+        others = λ p d g. w.others p d (λ k l. g k (omega (arith, e)));
+      }
 
   pub swapped_none : (axis : Axis) (a b : ℕ) (old : List E) → Swapped axis a b 0 old old
   swapped_none axis a b old = record { first = λ k d h. absurd (omega arith); second = λ k d h. absurd (omega arith); others = λ p d h g. refl }
@@ -119,9 +127,6 @@ module _ {E S : Type 0} (m : Model E S) where
     corner = let e : at ≡ 32 * size + size = omega arith in rw (← e) (meant_set_same t at one (omega arith) ∙ eo);
     others = λ p d h g. let ne : p ≢ at = λ e. h size (omega arith) (omega arith) in rw get_or-set_other (inv.others p d (λ j l. h j (omega arith)) (λ j l. g j (omega arith)));
   }
-
-  pub identity_none : (old : List E) → Identity m 0 old old
-  identity_none old = record { diagonal = λ i h. absurd (omega arith); off = λ i j h g n. absurd (omega arith); others = λ p d h. refl }
 
   pub identity_more : (k : ℕ) (old t t' : List E) → k < 32 → 1024 ≤ length t → length t' ≡ length t
       → Grown m k t t' → Identity m k old t → Identity m (k + 1) old t'

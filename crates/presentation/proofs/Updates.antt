@@ -1,57 +1,37 @@
 -- The new entries of a line, looked at and written one after another.
-use Rattle.std.proofs.Common.{◌≡◌, ℕ, ◌+◌, ◌<◌, ◌≤◌, ◌≢◌, List, length, get_or, set, Ok, Err, Result, sym, refl, ap, ◌∙◌, subst, arith, get_or-set_other, below_more}
+use Rattle.std.proofs.Common.{◌≡◌, ℕ, ◌+◌, ◌<◌, ◌≤◌, ◌≢◌, List, length, set, Ok, Err, Result, MatchResult, refl, ◌∙◌, subst, arith, get_or-set_other, below_more}
+use Rattle.std.proofs.lemmas.Result.{err_from_is_err_and}
+use Rattle.std.specs.Result.{IsErrAnd}
 use Rattle.kinds.specs.declared.ElementFault.{ElementFault}
 use Rattle.kinds.specs.declared.ElementFault.TheVariants.{Range}
 use Rattle.kinds.specs.Laws.{RangeLaws}
 use Rattle.kinds.specs.Model.{Model}
-use Rattle.presentation.specs.declared.fault.Place.{Place}
 use Rattle.presentation.specs.declared.fault.Table.{Table}
 use Rattle.presentation.specs.declared.fault.TableFault.{TableFault}
 use Rattle.presentation.specs.declared.table.Axis.{Axis}
 use Rattle.presentation.specs.declared.operation.Update.{Update}
-use Rattle.presentation.specs.Faults.{faulted, PlacedAt}
-use Rattle.presentation.specs.Places.{place, position, meant}
-use Rattle.presentation.specs.Operations.{changed, NewEntry, new_entry, FitUpdate, UnfitUpdate, Changed}
-use Rattle.presentation.proofs.Tables.{place_apart, place_below, meant_kept, meant_read, meant_set_same, meant_set_other}
+use Rattle.presentation.specs.Places.{place, fault_at, meant}
+use Rattle.presentation.specs.Operations.{NewEntry, new_entry, FitUpdate, UnfitUpdate, Changed}
+use Rattle.presentation.proofs.Tables.{place_apart, place_below, meant_kept, meant_set_same, meant_set_other}
 
 module _ {E S : Type 0} (m : Model E S) where
-  -- what is computed of the entries that were read is entry k of the new line
-  pub entry_is : (u : Update E) (axis : Axis) (t : List E) (k p q : ℕ) (x y : E)
-      → u.to < 32 → u.from < 32 → k < 32 → 1024 ≤ length t → p ≡ place axis u.to k → q ≡ place axis u.from k
-      → x ≡ get_or t p x → y ≡ get_or t q y → changed m u.change (m.mean x) (m.mean y) ≡ new_entry m u axis t k
-  entry_is u axis t k p q x y tl fl kl long ep eq rx ry =
-      let px = place_below axis u.to k tl kl in
-      let py = place_below axis u.from k fl kl in
-      let ex : m.mean x ≡ meant m t (place axis u.to k) = meant_read m t _ x (omega arith) (subst (λ p. x ≡ get_or t p x) ep rx) in
-      let ey : m.mean y ≡ meant m t (place axis u.from k) = meant_read m t _ y (omega arith) (subst (λ p. y ≡ get_or t p y) eq ry) in
-      rw (ex, ey)
+  pub fit_more : (u : Update E) (axis : Axis) (t : List E) (k : ℕ) (z : E) → RangeLaws m
+      → m.mean z ≡ new_entry m u axis t k → FitUpdate m u axis k t → FitUpdate m u axis (k + 1) t
+  fit_more u axis t k z laws ez inv = below_more (λ j. m.Fits (new_entry m u axis t j)) k inv (subst m.Fits ez (laws.mean_fits z))
 
-  pub fit_more : (u : Update E) (axis : Axis) (t : List E) (k : ℕ) (z : E) (a : m.Member) → RangeLaws m
-      → m.mean z ≡ a → a ≡ new_entry m u axis t k → FitUpdate m u axis k t → FitUpdate m u axis (k + 1) t
-  fit_more u axis t k z a laws ez ea inv = below_more (λ j. m.Fits (new_entry m u axis t j)) k inv (subst m.Fits (ez ∙ ea) (laws.mean_fits z))
+  -- an element's answer with its fault placed: the member that it means, or the fault `f` of one that does not fit
+  abbrev pub NewAt : TableFault → m.Member → Result E TableFault → Type 0
+  NewAt f a (Ok z) = m.mean z ≡ a
+  NewAt f a (Err e) = (e ≡ f) × (m.Fits a → ⊥)
 
-  -- an element's answer at a place: the member that it means, or the fault of one that does not fit
-  abbrev pub NewAt : Place → m.Member → Result E TableFault → Type 0
-  NewAt p a (Ok z) = m.mean z ≡ a
-  NewAt p a (Err f) = (f ≡ faulted p Range) × (m.Fits a → ⊥)
+  pub new_at : (at : ElementFault → TableFault) (a : m.Member) (r : Result E ElementFault) (r' : Result E TableFault)
+      → NewEntry m a r → MatchResult r (λ x. r' ≡ Ok x) (λ e. IsErrAnd r' (λ f. f ≡ at e)) → NewAt (at Range) a r'
+  new_at at a (Ok z) r' h e = rw e h
+  new_at at a (Err f) r' h e = let p = err_from_is_err_and r' e in rw (p.1, p.2, h.0) (refl, h.1)
 
-  pub new_at : (p : Place) (a : m.Member) (r : Result E ElementFault) (r' : Result E TableFault) → NewEntry m a r → PlacedAt p r r' → NewAt p a r'
-  new_at p a (Ok z) r' h e = rw e h
-  new_at p a (Err f) r' h e = rw e (ap (faulted p) h.0, h.1)
-
-  pub unfit : (u : Update E) (table : Table) (axis : Axis) (t : List E) (len k : ℕ) (a : m.Member) (p : Place) (f : TableFault)
-      → k < len → p ≡ position axis table u.to k → (f ≡ faulted p Range) × (m.Fits a → ⊥) → a ≡ new_entry m u axis t k → FitUpdate m u axis k t
-      → UnfitUpdate m u table axis len t f
-  unfit u table axis t len k a p f kl ep (ef, no-fit) ea inv = record {
-    at = k;
-    inside = kl;
-    is = ef ∙ ap (λ p. faulted p Range) ep;
-    here = λ h. no-fit (subst m.Fits (sym ea) h);
-    before = inv;
-  }
-
-  pub changed_none : (u : Update E) (axis : Axis) (old : List E) → Changed m u axis 0 old old
-  changed_none u axis old = record { entries = λ k h. absurd (omega arith); others = λ p d h. refl }
+  pub unfit : (u : Update E) (table : Table) (axis : Axis) (t : List E) (len k : ℕ) (f : TableFault)
+      → k < len → (f ≡ fault_at axis table u.to k Range) × (m.Fits (new_entry m u axis t k) → ⊥) → FitUpdate m u axis k t → UnfitUpdate m u table axis len t f
+  unfit u table axis t len k f kl no-fit inv = record { at = k; inside = kl; is = no-fit.0; here = no-fit.1; before = inv }
 
   -- the entries numbered k are still as they were
   still : (u : Update E) (axis : Axis) (k i : ℕ) (old t : List E) → u.to < 32 → i < 32 → k < 32 → 1024 ≤ length t → length t ≡ length old

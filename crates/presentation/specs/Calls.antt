@@ -1,13 +1,5 @@
 -- What the calls on a presentation answer and leave.
 --
---   shape        the numbers of a state: relations m, generators n, corner c
---   of_open      those of an open state
---   of_finished  those of a finished one
---   Bounded      the bounds that every state keeps
---   LentAdd      what add writes: A, W, P, P*
---   lent_add     four tables as such
---   LentStep     what step and run are lent: W, P, P*, Q, Q*
---   lent_step    five tables as such
 --   LongAdd      the tables of add have at least 1,024 elements, and the row at least n
 --   LongStep     the tables of step and run have at least 1,024 elements
 --   Opening      what open answers and leaves of Q and Q*
@@ -34,54 +26,18 @@ use Rattle.presentation.specs.declared.fault.TableFault.{TableFault}
 use Rattle.presentation.specs.declared.operation.Operation.{Operation}
 use Rattle.presentation.specs.declared.prescribe.Line.{Line}
 use Rattle.presentation.specs.declared.prescribe.Line.TheVariants.{SwapRows, SwapColumns, Normalise, ReduceRow, ReduceColumn, AddColumn, Advance}
-use Rattle.presentation.specs.declared.prescribe.Shape.{Shape}
-use Rattle.presentation.specs.declared.state.Open.{Open}
-use Rattle.presentation.specs.declared.state.Finished.{Finished}
 use Rattle.presentation.specs.declared.state.Step.{Step}
 use Rattle.presentation.specs.declared.state.Step.TheVariants as step
 use Rattle.presentation.specs.declared.state.Run.{Run}
 use Rattle.presentation.specs.declared.state.Run.TheVariants as run
 use Rattle.presentation.specs.declared.table.Axis.{Axis}
 use Rattle.presentation.specs.declared.table.Axis.TheVariants.{Row, Column}
-use Rattle.presentation.specs.Operations.{Three, three, Performed, FirstUnfit}
+use Rattle.presentation.specs.Lent.{LentAdd, LentStep}
+use Rattle.presentation.specs.Operations.{Three, Performed, FirstUnfit}
 use Rattle.presentation.specs.Places.{Written, Grown, Identity}
 use Rattle.presentation.specs.Products.{Put, UnfitSum}
 use Rattle.presentation.specs.Rests.{RestZero, Placed, operation}
-
-abbrev pub shape : ℕ → ℕ → ℕ → Shape
-shape m n c = record { m = m; n = n; c = c }
-
-abbrev pub of_open : Open → Shape
-of_open s = shape s.m s.n s.c
-
-abbrev pub of_finished : Finished → Shape
-of_finished s = shape s.m s.n s.c
-
-pub record Bounded (s : Shape) : Type 0 where
-  pub relations : s.m ≤ 32
-  pub some_generator : 1 ≤ s.n
-  pub generators : s.n ≤ 32
-  pub by_relations : s.c ≤ s.m
-  pub by_generators : s.c ≤ s.n
-
-pub record LentAdd (E : Type 0) : Type 0 where
-  pub relations : List E
-  pub work : List E
-  pub left : List E
-  pub left_inverse : List E
-
-abbrev pub lent_add : {E : Type 0} → List E → List E → List E → List E → LentAdd E
-lent_add a w p p' = record { relations = a; work = w; left = p; left_inverse = p' }
-
-pub record LentStep (E : Type 0) : Type 0 where
-  pub work : List E
-  pub left : List E
-  pub left_inverse : List E
-  pub right : List E
-  pub right_inverse : List E
-
-abbrev pub lent_step : {E : Type 0} → List E → List E → List E → List E → List E → LentStep E
-lent_step w p p' q q' = record { work = w; left = p; left_inverse = p'; right = q; right_inverse = q' }
+use Rattle.presentation.specs.Shapes.{Shape, shape}
 
 pub record LongAdd {E : Type 0} (n : ℕ) (x q : List E) (t : LentAdd E) : Type 0 where
   pub row : n ≤ length x
@@ -108,8 +64,8 @@ after (AddColumn j one) s = s
 after Advance s = shape s.m s.n (s.c + 1)
 
 module _ {E S : Type 0} (m : Model E S) where
-  abbrev pub Opening : ℕ → List E → List E → List E → List E → Result Open CallFault → Type 0
-  Opening n q q' r r' (Ok s) = (of_open s ≡ shape 0 n 0) × (1024 ≤ length q) × (1024 ≤ length q') × Identity m n q r × Identity m n q' r'
+  abbrev pub Opening : ℕ → List E → List E → List E → List E → Result Shape CallFault → Type 0
+  Opening n q q' r r' (Ok s) = (s ≡ shape 0 n 0) × (1024 ≤ length q) × (1024 ≤ length q') × Identity m n q r × Identity m n q' r'
   Opening n q q' r r' (Err Short) = (r ≡ q) × (r' ≡ q') × ((length q < 1024) ⊎ (length q' < 1024))
   Opening n q q' r r' (Err Generators) = (r ≡ q) × (r' ≡ q') × (1024 ≤ length q) × (1024 ≤ length q') × ((n ≡ 0) ⊎ (32 < n))
   Opening n q q' r r' (Err Full) = ⊥
@@ -128,16 +84,15 @@ module _ {E S : Type 0} (m : Model E S) where
   Accepting k n row right old new (Err (InTable f)) = (new ≡ old) × LongAdd n row right old × (k < 32) × UnfitSum m n row right k f
   Accepting k n row right old new (Err Generators) = ⊥
 
-  -- `of` gives the shape of the state that the relation is added to
-  abbrev pub Adding : {X : Type 0} → (X → Shape) → X → List E → List E → LentAdd E → LentAdd E → Result Open (X × CallFault) → Type 0
-  Adding of s row right old new (Ok o) = (of_open o ≡ shape ((of s).m + 1) (of s).n 0) × Accepting (of s).m (of s).n row right old new (Ok tt)
-  Adding of s row right old new (Err p) = (of p.0 ≡ of s) × Accepting (of s).m (of s).n row right old new (Err p.1)
+  abbrev pub Adding : Shape → List E → List E → LentAdd E → LentAdd E → Result Shape (Shape × CallFault) → Type 0
+  Adding s row right old new (Ok o) = (o ≡ shape (s.m + 1) s.n 0) × Accepting s.m s.n row right old new (Ok tt)
+  Adding s row right old new (Err p) = (p.0 ≡ s) × Accepting s.m s.n row right old new (Err p.1)
 
   abbrev pub by_rows : LentStep E → Three E
-  by_rows t = three t.work t.left t.left_inverse
+  by_rows t = record { work = t.work; transform = t.left; inverse = t.left_inverse }
 
   abbrev pub by_columns : LentStep E → Three E
-  by_columns t = three t.work t.right t.right_inverse
+  by_columns t = record { work = t.work; transform = t.right; inverse = t.right_inverse }
 
   abbrev pub MadeOn : Option (Axis × Operation E) → Shape → LentStep E → LentStep E → Type 0
   MadeOn None s t t' = t' ≡ t
@@ -149,8 +104,8 @@ module _ {E S : Type 0} (m : Model E S) where
   UnfitOn (Some (Row, o)) s t f = FirstUnfit m o Row s.n s.m (by_rows t) f
   UnfitOn (Some (Column, o)) s t f = FirstUnfit m o Column s.m s.n (by_columns t) f
 
-  abbrev pub Performs : Line E → Shape → LentStep E → LentStep E → Result Shape TableFault → Type 0
-  Performs line s t t' (Ok s') = (s' ≡ after line s) × MadeOn (operation line s.c) s t t'
+  abbrev pub Performs : Line E → Shape → LentStep E → LentStep E → Result (Unit {0}) TableFault → Type 0
+  Performs line s t t' (Ok x) = MadeOn (operation line s.c) s t t'
   Performs line s t t' (Err f) = (t' ≡ t) × UnfitOn (operation line s.c) s t f
 
   pub record Next (s : Shape) (t : LentStep E) (s' : Shape) (t' : LentStep E) : Type 0 where
@@ -166,10 +121,10 @@ module _ {E S : Type 0} (m : Model E S) where
   Refused s t Generators = ⊥
   Refused s t Full = ⊥
 
-  abbrev pub Stepping : Shape → LentStep E → LentStep E → Step → Type 0
-  Stepping s t t' (step.Stepped o) = LongStep t × Next s t (of_open o) t'
-  Stepping s t t' (step.Done f) = (of_finished f ≡ s) × (t' ≡ t) × LongStep t × RestZero m s t.work
-  Stepping s t t' (step.Refused o f) = (of_open o ≡ s) × (t' ≡ t) × Refused s t f
+  abbrev pub Stepping : Shape → LentStep E → LentStep E → Result Step (Shape × CallFault) → Type 0
+  Stepping s t t' (Ok (step.Stepped o)) = LongStep t × Next s t o t'
+  Stepping s t t' (Ok (step.Done f)) = (f ≡ s) × (t' ≡ t) × LongStep t × RestZero m s t.work
+  Stepping s t t' (Err p) = (p.0 ≡ s) × (t' ≡ t) × Refused s t p.1
 
   -- k steps lead from s and t
   pub data Reach (s : Shape) (t : LentStep E) : ℕ → Shape → LentStep E → Type 0 where
@@ -182,7 +137,7 @@ module _ {E S : Type 0} (m : Model E S) where
   Stopped budget s t k s' t' Generators = ⊥
   Stopped budget s t k s' t' Full = ⊥
 
-  abbrev pub Running : ℕ → Shape → LentStep E → LentStep E → Run → Type 0
-  Running budget s t t' (run.Done f k) = LongStep t × (k ≤ budget) × Reach s t k (of_finished f) t' × RestZero m (of_finished f) t'.work
-  Running budget s t t' (run.Spent o k) = LongStep t × (k ≡ budget) × Reach s t k (of_open o) t'
-  Running budget s t t' (run.Refused o k f) = Stopped budget s t k (of_open o) t' f
+  abbrev pub Running : ℕ → Shape → LentStep E → LentStep E → Result Run (Shape × ℕ × CallFault) → Type 0
+  Running budget s t t' (Ok (run.Done f k)) = LongStep t × (k ≤ budget) × Reach s t k f t' × RestZero m f t'.work
+  Running budget s t t' (Ok (run.Spent o k)) = LongStep t × (k ≡ budget) × Reach s t k o t'
+  Running budget s t t' (Err p) = Stopped budget s t p.1 p.0 t' p.2

@@ -1,3 +1,5 @@
+pub mod Shapes
+pub mod Lent
 pub mod Faults
 pub mod Places
 pub mod Operations

@@ -15,7 +15,7 @@
 --   Unfit          the fault of the first that does not
 --   Made           an operation was made on a table
 --   Three          what an operation is performed on: a worktable, a transform and its inverse
---   three          three tables as such
+--   three          a worktable, and a transform with its inverse, as such
 --   Performed      an operation was made on worktable and transform and undone on the inverse
 --   FirstUnfit     the first entry that does not fit: in the worktable, then the transform, then the inverse
 --   Performing     an operation was performed, or nothing was written
@@ -28,6 +28,7 @@ use Rattle.presentation.specs.declared.fault.Table.{Table}
 use Rattle.presentation.specs.declared.fault.Table.TheVariants.{Work}
 use Rattle.presentation.specs.declared.fault.TableFault.{TableFault}
 use Rattle.presentation.specs.declared.table.Axis.{Axis}
+use Rattle.presentation.specs.declared.table.Transform.{Transform}
 use Rattle.presentation.specs.declared.operation.Change.{Change}
 use Rattle.presentation.specs.declared.operation.Change.TheVariants.{Scale, Add, Subtract}
 use Rattle.presentation.specs.declared.operation.Update.{Update}
@@ -99,8 +100,8 @@ pub record Three (E : Type 0) : Type 0 where
   pub transform : List E
   pub inverse : List E
 
-abbrev pub three : {E : Type 0} → List E → List E → List E → Three E
-three w t v = record { work = w; transform = t; inverse = v }
+abbrev pub three : {E : Type 0} → List E → Transform E → Three E
+three w t = record { work = w; transform = t.matrix.now; inverse = t.inverse.now }
 
 module _ {E S : Type 0} (m : Model E S) (o : Operation E) (axis : Axis) (breadth len : ℕ) where
   pub record Performed (old new : Three E) : Type 0 where

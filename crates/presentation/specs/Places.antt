@@ -4,8 +4,7 @@
 --   other        rows for columns, and columns for rows
 --   transform    the table that keeps the operations of an axis
 --   inverse      the inverse of that table
---   position     the table, row and column of entry k of row i, or of column i
---   fault_at     the fault of that entry
+--   fault_at     the fault of entry k of row i, or of column i
 --   meant        the member at a place, and zero past the end
 --   Written      a row or column has new entries, and all else is as it was
 --   Swapped      two rows or columns are exchanged, and all else is as it was
@@ -16,11 +15,9 @@ use Rattle.kinds.specs.declared.ElementFault.{ElementFault}
 use Rattle.kinds.specs.Model.{Model}
 use Rattle.presentation.specs.declared.fault.Table.{Table}
 use Rattle.presentation.specs.declared.fault.Table.TheVariants.{Left, LeftInverse, Right, RightInverse}
-use Rattle.presentation.specs.declared.fault.Place.{Place}
 use Rattle.presentation.specs.declared.fault.TableFault.{TableFault}
 use Rattle.presentation.specs.declared.table.Axis.{Axis}
 use Rattle.presentation.specs.declared.table.Axis.TheVariants.{Row, Column}
-use Rattle.presentation.specs.Faults.{faulted}
 
 abbrev pub place : Axis → ℕ → ℕ → ℕ
 place Row i k = 32 * i + k
@@ -38,12 +35,9 @@ abbrev pub inverse : Axis → Table
 inverse Row = LeftInverse
 inverse Column = RightInverse
 
-abbrev pub position : Axis → Table → ℕ → ℕ → Place
-position Row t i k = record { table = t; row = i; column = k }
-position Column t i k = record { table = t; row = k; column = i }
-
 abbrev pub fault_at : Axis → Table → ℕ → ℕ → ElementFault → TableFault
-fault_at axis t i k f = faulted (position axis t i k) f
+fault_at Row t i k f = record { table = t; row = i; column = k; fault = f }
+fault_at Column t i k f = record { table = t; row = k; column = i; fault = f }
 
 abbrev pub meant : {E S : Type 0} (m : Model E S) → List E → ℕ → m.Member
 meant m [] k = m.ring.zero

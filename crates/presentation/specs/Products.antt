@@ -3,7 +3,6 @@
 --   dot          entry j of the product of a row and a table of n rows
 --   ZeroRow      the first n elements of a row are zero
 --   Sums         the first k entries of a line are those of the product
---   Cleared      row i of the worktable is zero, and all else is as it was
 --   Put          row i of the worktable holds the product, and all else is as it was
 --   UnfitSum     the fault of the first entry of the product that does not fit
 --   Putting      the product is put, or nothing is written
@@ -26,10 +25,6 @@ module _ {E S : Type 0} (m : Model E S) (n : ℕ) where
 
   abbrev pub Sums : List E → List E → ℕ → List E → Type 0
   Sums row t k line = (j : ℕ) (d : E) → j < k → m.mean (slice_index_or line j d) ≡ dot row t j
-
-  pub record Cleared (i : ℕ) (old new : List E) : Type 0 where
-    pub row_is : (j : ℕ) → j < n → member m new i j ≡ m.ring.zero
-    pub others : (p : ℕ) (d : E) → ((j : ℕ) → j < n → p ≢ place Row i j) → slice_index_or new p d ≡ slice_index_or old p d
 
   pub record Put (row t : List E) (i : ℕ) (old new : List E) : Type 0 where
     pub row_is : (j : ℕ) → j < n → member m new i j ≡ dot row t j

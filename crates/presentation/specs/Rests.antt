@@ -6,7 +6,7 @@
 --   Pivotal        an entry of the rest that is not zero
 --   Zeros          entries of row or column c from c + 1 on are zero
 --   FirstNonzero   the first that is not
---   Better         a size that takes the place of the least so far, which is 0 at first
+--   Better         a size that takes the place of the least so far, which is kept with its place
 --   Earlier        (a, b) comes before (i, j), by rows and then columns
 --   DividedBy      a member that b leaves no remainder of
 --   AllDivided     every entry of the rest is
@@ -21,10 +21,10 @@ use Rattle.presentation.specs.declared.table.Axis.TheVariants.{Row, Column}
 use Rattle.presentation.specs.declared.operation.Change.TheVariants.{Scale, Add, Subtract}
 use Rattle.presentation.specs.declared.operation.Operation.{Operation}
 use Rattle.presentation.specs.declared.operation.Operation.TheVariants.{Swap, Combine}
-use Rattle.presentation.specs.declared.prescribe.Shape.{Shape}
 use Rattle.presentation.specs.declared.prescribe.Line.{Line}
 use Rattle.presentation.specs.declared.prescribe.Line.TheVariants.{SwapRows, SwapColumns, Normalise, ReduceRow, ReduceColumn, AddColumn, Advance}
 use Rattle.presentation.specs.Places.{place, meant}
+use Rattle.presentation.specs.Shapes.{Shape}
 
 pub record In (s : Shape) (i j : ℕ) : Type 0 where
   pub row_from : s.c ≤ i
@@ -35,8 +35,9 @@ pub record In (s : Shape) (i j : ℕ) : Type 0 where
 abbrev pub Earlier : ℕ → ℕ → ℕ → ℕ → Type 0
 Earlier i j a b = (a < i) ⊎ ((a ≡ i) × (b < j))
 
-abbrev pub Better : ℕ → ℕ → Type 0
-Better size least = (0 < size) × ((least ≡ 0) ⊎ (size < least))
+abbrev pub Better : ℕ → Option (ℕ × (ℕ × ℕ)) → Type 0
+Better size None = 0 < size
+Better size (Some least) = (0 < size) × (size < least.0)
 
 module _ {E S : Type 0} (m : Model E S) where
   abbrev pub member : List E → ℕ → ℕ → m.Member

@@ -1,6 +1,6 @@
 // Why a call was refused: an element's fault whole inside a table's, and that inside the call's.
 ghost use Rattle.std.specs.Prelude.{◌≡◌};
-ghost use Rattle.presentation.specs.Faults.{PlacedAt, call_number};
+ghost use Rattle.presentation.specs.Faults.{call_number};
 ghost use Rattle.presentation.specs.declared.fault.CallFault.TheVariants.{InTable};
 
 use kinds::ElementFault;
@@ -29,31 +29,6 @@ pub struct TableFault {
     pub row: usize,
     pub column: usize,
     pub fault: ElementFault,
-}
-
-// A place of a table.
-#[derive(Clone, Copy)]
-pub(crate) struct Place {
-    pub(crate) table: Table,
-    pub(crate) row: usize,
-    pub(crate) column: usize,
-}
-
-impl Place {
-    // An element's answer, with the place of its fault.
-    pub(crate) fn of<T>(self, answer: Result<T, ElementFault>) -> Result<T, TableFault>
-        ensures { PlacedAt self answer result }
-    {
-        match answer {
-            Ok(x) => Ok(x),
-            Err(fault) => Err(TableFault {
-                table: self.table,
-                row: self.row,
-                column: self.column,
-                fault,
-            }),
-        }
-    }
 }
 
 // Why a call was refused.

@@ -2,6 +2,7 @@
 #![tactic(auto)]
 
 mod fault;
+mod grid;
 mod operation;
 mod prescribe;
 mod product;
@@ -10,4 +11,5 @@ mod table;
 
 pub use fault::{CallFault, Table, TableFault};
 pub use state::calls::open;
-pub use state::{Finished, Open, Run, Step};
+pub use state::{Finished, Open, Presentation, Reduced, Run, Step, Unreduced};
+pub use table::Transform;

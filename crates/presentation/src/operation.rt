@@ -1,10 +1,12 @@
 // Elementary operations on the rows or columns of tables, whole or not at all.
-ghost use Rattle.std.specs.Prelude.{◌≡◌, ◌*◌, ◌<◌, ◌≤◌, length};
+ghost use Rattle.std.specs.Prelude.{MatchResult, ◌≡◌, ◌*◌, ◌<◌, ◌≤◌, length};
 ghost use Rattle.presentation.specs.declared.operation.Operation.TheVariants.{Combine};
-ghost use Rattle.presentation.specs.Operations.{across_update, changed, NewEntry, Fitting, FitUpdate, Changed, Within, three, Performing};
+ghost use Rattle.presentation.specs.Lent.{Same};
+ghost use Rattle.presentation.specs.Operations.{across_update, across, changed, NewEntry, new_entry, Fitting, FitUpdate, Changed, Fit, Unfit, Made, Within, three, Performing};
 
 use crate::fault::{Table, TableFault};
-use crate::table::{Axis, swap_along};
+use crate::grid::Grid;
+use crate::table::{Axis, Transform, swap_along};
 use kinds::{ElementFault, Ring};
 
 // How the entries of a row or column come from those of another.
@@ -69,65 +71,84 @@ impl<E: Ring> Update<E> {
         }
     }
 
+    // Entry k of row or column `to`, after the update.
+    fn new_entry(&self, t: &Grid<'_, E>, axis: Axis, k: usize) -> Result<E, ElementFault>
+        requires within { Within (Combine self.now) }
+        requires entry { k < 32 }
+        ensures { NewEntry E.model (new_entry E.model self.now axis t.now k) result }
+    {
+        let x = t.entry(axis, self.to, k);
+        let y = t.entry(axis, self.from, k);
+        self.entry(&x, &y)
+    }
+
     // Looks whether the new entries of row or column `to` fit.
-    fn fits(&self, t: &[E], table: Table, axis: Axis, len: usize) -> Result<(), TableFault>
-        requires { (1024 ≤ length t.now) × ((self.now.from < 32) × ((self.now.to < 32) × (len ≤ 32))) }
+    fn fits(&self, t: &Grid<'_, E>, table: Table, axis: Axis, len: usize) -> Result<(), TableFault>
+        requires within { Within (Combine self.now) }
+        requires used { len ≤ 32 }
         ensures { Fitting E.model self.now table axis len t.now result }
     {
         for k in 0..len {
-            let x = t[axis.place(self.to, k)];
-            let y = t[axis.place(self.from, k)];
-            let place = axis.position(table, self.to, k);
-            place.of(self.entry(&x, &y))?;
+            self.new_entry(t, axis, k)
+                .map_err(|fault| axis.fault(table, self.to, k, fault))?;
         }
         Ok(())
     }
 
     // Writes the new entries of row or column `to`, which fit.
     fn apply(&self, t: &mut [E], axis: Axis, len: usize)
-        requires sizes { (1024 ≤ length t.old) × ((self.now.from < 32) × ((self.now.to < 32) × (len ≤ 32))) }
+        requires long { 1024 ≤ length t.old }
+        requires within { Within (Combine self.now) }
+        requires used { len ≤ 32 }
         requires fit { FitUpdate E.model self.now axis len t.old }
         ensures { Changed E.model self.now axis len t.old t.new }
     {
         for k in 0..len {
-            let at = axis.place(self.to, k);
-            let x = t[at];
-            let y = t[axis.place(self.from, k)];
-            match self.entry(&x, &y) {
-                Ok(z) => t[at] = z,
-                Err(_) => unreachable(),
+            match self.new_entry(&Grid { cells: t }, axis, k) {
+                Ok(z) => t[axis.place(self.to, k)] = z,
+                Err(_) => unreachable!(),
             }
         }
-    }
-
-    // Makes the update along an axis of the worktable and of a transform, and undoes it along the other axis of the
-    // transform's inverse, where all new entries fit.
-    fn perform(
-        &self,
-        axis: Axis,
-        breadth: usize,
-        len: usize,
-        work: &mut [E],
-        transform: &mut [E],
-        inverse: &mut [E],
-    ) -> Result<(), TableFault>
-        requires long { (1024 ≤ length work.old) × ((1024 ≤ length transform.old) × (1024 ≤ length inverse.old)) }
-        requires sizes { (breadth ≤ 32) × (len ≤ 32) }
-        requires within { (self.now.from < 32) × (self.now.to < 32) }
-        ensures { Performing E.model (Combine self.now) axis breadth len (three work.old transform.old inverse.old) (three work.new transform.new inverse.new) result }
-    {
-        let back = self.across();
-        self.fits(work, Table::Work, axis, breadth)?;
-        self.fits(transform, axis.transform(), axis, len)?;
-        back.fits(inverse, axis.inverse(), axis.other(), len)?;
-        self.apply(work, axis, breadth);
-        self.apply(transform, axis, len);
-        back.apply(inverse, axis.other(), len);
-        Ok(())
     }
 }
 
 impl<E: Ring> Operation<E> {
+    // The operation on the inverse table, along the other axis, that undoes this one.
+    fn across(&self) -> Operation<E>
+        ensures { result ≡ across self.now }
+    {
+        match self {
+            Operation::Swap(a, b) => Operation::Swap(*a, *b),
+            Operation::Combine(update) => Operation::Combine(update.across()),
+        }
+    }
+
+    // Looks whether the entries that it would write fit. Swaps need no look.
+    fn fits(&self, t: &Grid<'_, E>, table: Table, axis: Axis, len: usize) -> Result<(), TableFault>
+        requires within { Within self.now }
+        requires used { len ≤ 32 }
+        ensures { MatchResult result (λ _. Fit E.model self.now axis len t.now) (λ f. Unfit E.model self.now table axis len t.now f) }
+    {
+        match self {
+            Operation::Swap(_, _) => Ok(()),
+            Operation::Combine(update) => update.fits(t, table, axis, len),
+        }
+    }
+
+    // Makes the operation, whose entries fit.
+    fn apply(&self, t: &mut [E], axis: Axis, len: usize)
+        requires long { 1024 ≤ length t.old }
+        requires within { Within self.now }
+        requires used { len ≤ 32 }
+        requires fit { Fit E.model self.now axis len t.old }
+        ensures { Made E.model self.now axis len t.old t.new }
+    {
+        match self {
+            Operation::Swap(a, b) => swap_along(t, axis, *a, *b, len),
+            Operation::Combine(update) => update.apply(t, axis, len),
+        }
+    }
+
     // Makes the operation along an axis of the worktable and of a transform, and undoes it along the other axis of
     // the transform's inverse: all entries fit and are written, or none is.
     pub(crate) fn perform(
@@ -136,24 +157,30 @@ impl<E: Ring> Operation<E> {
         breadth: usize,
         len: usize,
         work: &mut [E],
-        transform: &mut [E],
-        inverse: &mut [E],
+        transform: &mut Transform<'_, E>,
     ) -> Result<(), TableFault>
-        requires long { (1024 ≤ length work.old) × ((1024 ≤ length transform.old) × (1024 ≤ length inverse.old)) }
-        requires sizes { (breadth ≤ 32) × (len ≤ 32) }
+        requires work { 1024 ≤ length work.old }
+        requires transform { 1024 ≤ length transform.old.matrix.now }
+        requires inverse { 1024 ≤ length transform.old.inverse.now }
+        requires breadth { breadth ≤ 32 }
+        requires used { len ≤ 32 }
         requires within { Within self.now }
-        ensures { Performing E.model self.now axis breadth len (three work.old transform.old inverse.old) (three work.new transform.new inverse.new) result }
+        ensures same { Same transform.old transform.new }
+        ensures outcome { Performing E.model self.now axis breadth len (three work.old transform.old) (three work.new transform.new) result }
     {
-        match self {
-            Operation::Swap(a, b) => {
-                swap_along(work, axis, *a, *b, breadth);
-                swap_along(transform, axis, *a, *b, len);
-                swap_along(inverse, axis.other(), *a, *b, len);
-                Ok(())
-            }
-            Operation::Combine(update) => update.perform(
-                axis, breadth, len, work, transform, inverse,
-            ),
-        }
+        let back = self.across();
+        self.fits(&Grid { cells: work }, Table::Work, axis, breadth)?;
+        let matrix = Grid {
+            cells: transform.matrix(),
+        };
+        self.fits(&matrix, axis.transform(), axis, len)?;
+        let inverse = Grid {
+            cells: transform.inverse(),
+        };
+        back.fits(&inverse, axis.inverse(), axis.other(), len)?;
+        self.apply(work, axis, breadth);
+        self.apply(transform.matrix, axis, len);
+        back.apply(transform.inverse, axis.other(), len);
+        Ok(())
     }
 }

@@ -4,17 +4,11 @@ ghost use Rattle.presentation.specs.declared.operation.Operation.TheVariants.{Co
 ghost use Rattle.presentation.specs.Rests as rests;
 ghost use Rattle.presentation.specs.Rests.{RestZero, Pivotal, Zeros, FirstNonzero, Better, DividedBy, AllDivided, FirstUndivided, Placed};
 
+use crate::grid::Grid;
 use crate::operation::{Change, Operation, Update};
+use crate::state::Open;
 use crate::table::Axis;
 use kinds::Euclid;
-
-// m relations, n generators and the corner c. The rest is the rows and columns of the worktable from c on.
-#[derive(Clone, Copy)]
-pub struct Shape {
-    pub m: usize,
-    pub n: usize,
-    pub c: usize,
-}
 
 // Lines 2 to 8 of the step, with their positions and multipliers.
 #[derive(Drop)]
@@ -35,64 +29,62 @@ pub enum Line<E> {
     Advance,
 }
 
-impl Shape {
-    // The nonzero entry of least size, of the lowest row and then column.
-    fn pivot<E: Euclid>(self, w: &[E]) -> Option<(usize, usize)>
-        requires { (self.m ≤ 32) × ((self.n ≤ 32) × (1024 ≤ length w.now)) }
-        ensures { MatchOption result (RestZero E.Ring.model self w.now) (λ p. Pivotal E.Ring.model self w.now p.0 p.1) }
+impl Open {
+    // A nonzero entry of least size, of the lowest row and then column.
+    fn pivot<E: Euclid>(&self, w: &Grid<'_, E>) -> Option<(usize, usize)>
+        ensures { MatchOption result (RestZero E.Ring.model self.now w.now) (λ p. Pivotal E.Ring.model self.now w.now p.0 p.1) }
     {
         let mut least = None;
-        let mut size = 0;
         for i in self.c..self.m {
             for j in self.c..self.n {
-                let here = w[32 * i + j].size();
-                if is_better(here, size) {
-                    least = Some((i, j));
-                    size = here;
+                let size = w.entry(Axis::Row, i, j).size();
+                if is_better(size, least) {
+                    least = Some((size, (i, j)));
                 }
             }
         }
-        least
+        least.map(|(_, place)| place)
     }
 
     // The first nonzero entry of row or column c after the corner.
-    fn first_nonzero<E: Euclid>(self, w: &[E], axis: Axis, len: usize) -> Option<usize>
-        requires { (self.c < 32) × ((len ≤ 32) × (1024 ≤ length w.now)) }
-        ensures { MatchOption result (Zeros E.Ring.model axis self.c len w.now) (λ k. FirstNonzero E.Ring.model axis self.c len w.now k) }
+    fn first_nonzero<E: Euclid>(&self, w: &Grid<'_, E>, axis: Axis, len: usize) -> Option<usize>
+        requires corner { self.now.c < 32 }
+        requires used { len ≤ 32 }
+        ensures { MatchOption result (Zeros E.Ring.model axis self.now.c len w.now) (λ k. FirstNonzero E.Ring.model axis self.now.c len w.now k) }
     {
-        for k in self.c + 1..len {
-            if !w[axis.place(self.c, k)].is_zero() {
-                return Some(k);
+        let c = self.c;
+        (c + 1..len).find(|k| !w.entry(axis, c, *k).is_zero())
+    }
+
+    // The first entry, by rows and then columns, that the pivot does not divide.
+    fn first_undivided<E: Euclid>(&self, w: &Grid<'_, E>, pivot: &E) -> Option<(usize, usize)>
+        requires nonzero { E.Ring.model.mean pivot.now ≢ E.Ring.model.ring.zero }
+        ensures { MatchOption result (AllDivided E.Ring.model self.now w.now (E.Ring.model.mean pivot.now)) (λ p. FirstUndivided E.Ring.model self.now w.now (E.Ring.model.mean pivot.now) p.0 p.1) }
+    {
+        for i in self.c..self.m {
+            for j in self.c..self.n {
+                if !divides(pivot, &w.entry(Axis::Row, i, j)) {
+                    return Some((i, j));
+                }
             }
         }
         None
     }
 
-    // The first entry, by rows and then columns, that the pivot does not divide.
-    fn first_undivided<E: Euclid>(self, w: &[E], pivot: &E) -> Option<(usize, usize)>
-        requires sizes { (self.m ≤ 32) × ((self.n ≤ 32) × (1024 ≤ length w.now)) }
-        requires nonzero { E.Ring.model.mean pivot.now ≢ E.Ring.model.ring.zero }
-        ensures { MatchOption result (AllDivided E.Ring.model self w.now (E.Ring.model.mean pivot.now)) (λ p. FirstUndivided E.Ring.model self w.now (E.Ring.model.mean pivot.now) p.0 p.1) }
+    // The pivot, where it stands at the corner.
+    fn corner<E: Euclid>(&self, w: &Grid<'_, E>) -> E
+        requires { Pivotal E.Ring.model self.now w.now self.now.c self.now.c }
+        ensures { E.Ring.model.mean result ≢ E.Ring.model.ring.zero }
     {
-        let mut found = None;
-        'scan: for i in self.c..self.m {
-            for j in self.c..self.n {
-                if !divides(pivot, &w[32 * i + j]) {
-                    found = Some((i, j));
-                    break 'scan;
-                }
-            }
-        }
-        found
+        w.entry(Axis::Row, self.c, self.c)
     }
 
     // The line that applies where the pivot stands at the corner.
-    fn at_corner<E: Euclid>(self, w: &[E]) -> Line<E>
-        requires sizes { (self.m ≤ 32) × ((self.n ≤ 32) × (1024 ≤ length w.now)) }
-        requires pivot { Pivotal E.Ring.model self w.now self.c self.c }
-        ensures { Placed self result }
+    fn at_corner<E: Euclid>(&self, w: &Grid<'_, E>) -> Line<E>
+        requires { Pivotal E.Ring.model self.now w.now self.now.c self.now.c }
+        ensures { Placed self.now result }
     {
-        let pivot = w[32 * self.c + self.c];
+        let pivot = self.corner(w);
         let mut unit = pivot;
         let mut inverse = pivot;
         pivot.normalise(&mut unit, &mut inverse);
@@ -102,11 +94,11 @@ impl Shape {
             return Line::Normalise { unit, inverse };
         }
         if let Some(row) = self.first_nonzero(w, Axis::Column, self.m) {
-            let quotient = quotient(&w[32 * row + self.c], &pivot);
+            let quotient = quotient(&w.entry(Axis::Row, row, self.c), &pivot);
             return Line::ReduceRow { row, quotient };
         }
         if let Some(column) = self.first_nonzero(w, Axis::Row, self.n) {
-            let quotient = quotient(&w[32 * self.c + column], &pivot);
+            let quotient = quotient(&w.entry(Axis::Row, self.c, column), &pivot);
             return Line::ReduceColumn { column, quotient };
         }
         match self.first_undivided(w, &pivot) {
@@ -116,9 +108,8 @@ impl Shape {
     }
 
     // The line that the step prescribes, or None where the rest is zero.
-    pub(crate) fn prescribe<E: Euclid>(self, w: &[E]) -> Option<Line<E>>
-        requires { (self.m ≤ 32) × ((self.n ≤ 32) × (1024 ≤ length w.now)) }
-        ensures { MatchOption result (RestZero E.Ring.model self w.now) (λ line. Placed self line) }
+    pub(crate) fn prescribe<E: Euclid>(&self, w: &Grid<'_, E>) -> Option<Line<E>>
+        ensures { MatchOption result (RestZero E.Ring.model self.now w.now) (λ line. Placed self.now line) }
     {
         let (i, j) = self.pivot(w)?;
         if i != self.c {
@@ -131,11 +122,11 @@ impl Shape {
     }
 }
 
-// Whether an entry of this size takes the place of the least so far, which is 0 where there is none.
-fn is_better(size: u64, least: u64) -> bool
+// Whether an entry of this size takes the place of the least so far, which is kept with its size.
+fn is_better(size: u64, least: Option<(u64, (usize, usize))>) -> bool
     ensures { Decides result (Better size least) }
 {
-    size > 0 && (least == 0 || size < least)
+    size > 0 && least.is_none_or(|(least, _)| size < least)
 }
 
 // Whether b divides a.
@@ -147,7 +138,7 @@ fn divides<E: Euclid>(b: &E, a: &E) -> bool
     let mut remainder = *a;
     match a.divide(b, &mut quotient, &mut remainder) {
         Ok(()) => remainder.is_zero(),
-        Err(_) => unreachable(),
+        Err(_) => unreachable!(),
     }
 }
 
@@ -160,7 +151,7 @@ fn quotient<E: Euclid>(a: &E, b: &E) -> E
     let mut remainder = *a;
     match a.divide(b, &mut quotient, &mut remainder) {
         Ok(()) => quotient,
-        Err(_) => unreachable(),
+        Err(_) => unreachable!(),
     }
 }
 

@@ -1,35 +1,63 @@
-// The states of a presentation: plain numbers under their bounds, moved from call to call.
+// A presentation: its numbers under their bounds, moved from call to call.
 pub mod calls;
 pub mod steps;
 
-ghost use Rattle.std.specs.Prelude.{◌≤◌};
+use std::marker::{Model, PhantomData};
 
-use crate::fault::CallFault;
+// Says of a presentation that step and run go on with it.
+pub struct Unreduced;
 
-// m relations of n generators, being reduced; c is the corner. Step and run go on from it.
+// Says of a presentation that the rest of the worktable from the corner on is zero.
+pub struct Reduced;
+
+// m relations of n generators, being reduced; c is the corner. S says whether they are reduced.
 #[derive(Drop)]
-pub struct Open {
-    m: usize,
-    n: usize,
-    c: usize,
-    ghost ok: { (m ≤ 32) × (1 ≤ n) × (n ≤ 32) × (c ≤ m) × (c ≤ n) },
+pub struct Presentation<S> {
+    pub(crate) m: usize,
+    pub(crate) n: usize,
+    pub(crate) c: usize,
+    state: PhantomData<S>,
 }
 
-// The same, reduced: the rest of the worktable from the corner on is zero.
-#[derive(Drop)]
-pub struct Finished {
-    m: usize,
-    n: usize,
-    c: usize,
-    ghost ok: { (m ≤ 32) × (1 ≤ n) × (n ≤ 32) × (c ≤ m) × (c ≤ n) },
+// A contract sees the numbers.
+impl<S> Model for Presentation<S> {
+    ghost use Rattle.presentation.specs.Shapes.{Shape, shape, Bounded};
+
+    ghost Value = { Shape };
+
+    ghost view = { λ p. shape p.m p.n p.c };
+
+    ghost invariant = { λ p. Bounded (shape p.m p.n p.c) };
 }
+
+impl<S> Presentation<S> {
+    ghost use Rattle.std.specs.Prelude.{◌≡◌};
+    ghost use Rattle.presentation.specs.Shapes.{shape, Bounded};
+
+    fn new(m: usize, n: usize, c: usize) -> Presentation<S>
+        requires { Bounded (shape m n c) }
+        ensures { result ≡ shape m n c }
+    {
+        Presentation {
+            m,
+            n,
+            c,
+            state: PhantomData,
+        }
+    }
+}
+
+// A presentation that takes steps.
+pub type Open = Presentation<Unreduced>;
+
+// The same, reduced.
+pub type Finished = Presentation<Reduced>;
 
 // What a step answers.
 #[derive(Drop)]
 pub enum Step {
     Stepped(Open),
     Done(Finished),
-    Refused(Open, CallFault),
 }
 
 // What a run answers, with the count of the steps that it took.
@@ -37,5 +65,4 @@ pub enum Step {
 pub enum Run {
     Done(Finished, u32),
     Spent(Open, u32),
-    Refused(Open, u32, CallFault),
 }

@@ -1,13 +1,45 @@
 // A table of rows of 32, and writing its rows and columns.
-ghost use Rattle.std.specs.Prelude.{◌≡◌, ◌+◌, ◌*◌, ◌<◌, ◌≤◌, length};
+ghost use Rattle.std.specs.Prelude.{◌⊎◌, true, false, ◌≡◌, ◌+◌, ◌*◌, ◌<◌, ◌≤◌, length};
+ghost use Rattle.presentation.specs.declared.table.Axis.TheVariants.{Row};
 ghost use Rattle.presentation.specs.Places as places;
 ghost use Rattle.presentation.specs.Places.{Written, Swapped, Grown};
 
-use crate::fault::{Place, Table};
-use kinds::Ring;
+use crate::fault::{Table, TableFault};
+use kinds::{ElementFault, Ring};
 
 // The elements of a table at least.
 pub const TABLE: usize = 1024;
+
+// A transform that is lent with its inverse: P and P*, or Q and Q*.
+#[derive(Drop)]
+pub struct Transform<'a, E> {
+    pub matrix: &'a mut [E],
+    pub inverse: &'a mut [E],
+}
+
+impl<E> Transform<'_, E> {
+    // Whether the transform or its inverse is under 1,024 elements.
+    pub(crate) fn is_short(&self) -> bool
+        ensures long { result ≡ false → (1024 ≤ length self.now.matrix.now) × (1024 ≤ length self.now.inverse.now) }
+        ensures short { result ≡ true → (length self.now.matrix.now < 1024) ⊎ (length self.now.inverse.now < 1024) }
+    {
+        self.matrix.len() < TABLE || self.inverse.len() < TABLE
+    }
+
+    // The transform itself, to be read.
+    pub(crate) fn matrix(&self) -> &[E]
+        ensures { result.now ≡ self.now.matrix.now }
+    {
+        self.matrix
+    }
+
+    // Its inverse, to be read.
+    pub(crate) fn inverse(&self) -> &[E]
+        ensures { result.now ≡ self.now.inverse.now }
+    {
+        self.inverse
+    }
+}
 
 // Rows or columns: one text serves both.
 #[derive(Clone, Copy)]
@@ -19,7 +51,8 @@ pub enum Axis {
 impl Axis {
     // The place of entry k of row or column i.
     pub(crate) fn place(self, i: usize, k: usize) -> usize
-        requires { (i < 32) × (k < 32) }
+        requires line { i < 32 }
+        requires entry { k < 32 }
         ensures value { result ≡ places.place self i k }
         ensures bound { result < 1024 }
     {
@@ -59,38 +92,39 @@ impl Axis {
         }
     }
 
-    // The table, row and column of entry k of row or column i.
-    pub(crate) fn position(self, table: Table, i: usize, k: usize) -> Place
-        ensures { result ≡ places.position self table i k }
+    // The fault of entry k of row or column i.
+    pub(crate) fn fault(self, table: Table, i: usize, k: usize, fault: ElementFault) -> TableFault
+        ensures { result ≡ places.fault_at self table i k fault }
     {
-        match self {
-            Axis::Row => Place {
-                table,
-                row: i,
-                column: k,
-            },
-            Axis::Column => Place {
-                table,
-                row: k,
-                column: i,
-            },
+        let (row, column) = match self {
+            Axis::Row => (i, k),
+            Axis::Column => (k, i),
+        };
+        TableFault {
+            table,
+            row,
+            column,
+            fault,
         }
     }
 }
 
-// Puts entries into row or column i.
-pub(crate) fn write_along<E: Copy>(t: &mut [E], axis: Axis, i: usize, len: usize, line: &[E])
-    requires { (1024 ≤ length t.old) × ((i < 32) × ((len ≤ 32) × (len ≤ length line.now))) }
-    ensures { Written axis i len line.now t.old t.new }
+// Puts a line into row i.
+pub(crate) fn put_row<E: Copy>(t: &mut [E], i: usize, line: &[E])
+    requires long { 1024 ≤ length t.old }
+    requires row { i < 32 }
+    requires few { length line.now ≤ 32 }
+    ensures { Written Row i (length line.now) line.now t.old t.new }
 {
-    for k in 0..len {
-        t[axis.place(i, k)] = line[k];
-    }
+    t[32 * i..32 * i + line.len()].copy_from_slice(line);
 }
 
 // Swaps rows or columns a and b.
 pub(crate) fn swap_along<E: Copy>(t: &mut [E], axis: Axis, a: usize, b: usize, len: usize)
-    requires { (1024 ≤ length t.old) × ((a < 32) × ((b < 32) × (len ≤ 32))) }
+    requires long { 1024 ≤ length t.old }
+    requires first { a < 32 }
+    requires second { b < 32 }
+    requires used { len ≤ 32 }
     ensures { Swapped axis a b len t.old t.new }
 {
     for k in 0..len {
@@ -100,7 +134,8 @@ pub(crate) fn swap_along<E: Copy>(t: &mut [E], axis: Axis, a: usize, b: usize, l
 
 // A table of size × size grows by a row and a column of the identity.
 pub(crate) fn grow<E: Ring>(t: &mut [E], size: usize)
-    requires { (1024 ≤ length t.old) × (size < 32) }
+    requires long { 1024 ≤ length t.old }
+    requires room { size < 32 }
     ensures { Grown E.model size t.old t.new }
 {
     let mut zero = t[33 * size];

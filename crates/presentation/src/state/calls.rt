@@ -1,122 +1,95 @@
 // Opening a presentation, and adding a relation.
-ghost use Rattle.std.specs.Prelude.{◌≤◌};
-ghost use Rattle.presentation.specs.Calls.{of_open, of_finished, lent_add, Opening, Accepting, Adding};
+ghost use Rattle.std.specs.Prelude.{◌≡◌, length};
+ghost use Rattle.presentation.specs.Calls.{LongAdd, Opening, Accepting, Adding};
+ghost use Rattle.presentation.specs.Lent.{Same, lent_add};
 
 use crate::fault::CallFault;
+use crate::grid::Grid;
 use crate::product::put_product;
-use crate::state::{Finished, Open};
-use crate::table::{Axis, TABLE, grow, write_along};
+use crate::state::{Open, Presentation};
+use crate::table::{TABLE, Transform, grow, put_row};
 use kinds::Ring;
 
 // Opens a presentation of n generators and no relations.
-pub fn open<E: Ring>(n: usize, right: &mut [E], right_inverse: &mut [E]) -> Result<Open, CallFault>
-    ensures { Opening E.model n right.old right_inverse.old right.new right_inverse.new result }
+pub fn open<E: Ring>(n: usize, right: &mut Transform<'_, E>) -> Result<Open, CallFault>
+    ensures same { Same right.old right.new }
+    ensures outcome { Opening E.model n right.old.matrix.now right.old.inverse.now right.new.matrix.now right.new.inverse.now result }
 {
-    if right.len() < TABLE || right_inverse.len() < TABLE {
+    if right.is_short() {
         return Err(CallFault::Short);
     }
     if n == 0 || n > 32 {
         return Err(CallFault::Generators);
     }
     for k in 0..n {
-        grow(right, k);
-        grow(right_inverse, k);
+        grow(right.matrix, k);
+        grow(right.inverse, k);
     }
-    Ok(Open { m: 0, n, c: 0 })
+    Ok(Presentation::new(0, n, 0))
 }
 
-// Makes `row` the relation after the first m.
-fn accept<E: Ring>(
-    m: usize,
-    n: usize,
-    row: &[E],
-    relations: &mut [E],
-    work: &mut [E],
-    left: &mut [E],
-    left_inverse: &mut [E],
-    right: &[E],
-) -> Result<(), CallFault>
-    requires { (m ≤ 32) × (n ≤ 32) }
-    ensures { Accepting E.model m n row.now right.now (lent_add relations.old work.old left.old left_inverse.old) (lent_add relations.new work.new left.new left_inverse.new) result }
-{
-    if relations.len() < TABLE
-        || work.len() < TABLE
-        || left.len() < TABLE
-        || left_inverse.len() < TABLE
-        || right.len() < TABLE
-        || row.len() < n
-    {
-        return Err(CallFault::Short);
-    }
-    if m == 32 {
-        return Err(CallFault::Full);
-    }
-    put_product(row, right, n, m, work)?;
-    write_along(relations, Axis::Row, m, n, row);
-    grow(left, m);
-    grow(left_inverse, m);
-    Ok(())
-}
-
-impl Open {
-    // Adds a relation.
-    pub fn add<E: Ring>(
-        self,
+impl<S> Presentation<S> {
+    // Makes a row of n elements the relation after the first m.
+    fn accept_row<E: Ring>(
+        &self,
         row: &[E],
         relations: &mut [E],
         work: &mut [E],
-        left: &mut [E],
-        left_inverse: &mut [E],
+        left: &mut Transform<'_, E>,
         right: &[E],
-    ) -> Result<Open, (Open, CallFault)>
-        ensures { Adding E.model of_open self row.now right.now (lent_add relations.old work.old left.old left_inverse.old) (lent_add relations.new work.new left.new left_inverse.new) result }
+    ) -> Result<(), CallFault>
+        requires row { length row.now ≡ self.now.n }
+        requires long { LongAdd self.now.n row.now right.now (lent_add relations.old work.old left.old) }
+        ensures same { Same left.old left.new }
+        ensures outcome { Accepting E.model self.now.m (length row.now) row.now right.now (lent_add relations.old work.old left.old) (lent_add relations.new work.new left.new) result }
     {
-        match accept(
-            self.m,
-            self.n,
-            row,
-            relations,
-            work,
-            left,
-            left_inverse,
-            right,
-        ) {
-            Ok(()) => {
-                let Open { m, n, c: _ } = self;
-                Ok(Open { m: m + 1, n, c: 0 })
-            }
-            Err(fault) => Err((self, fault)),
+        if self.m == 32 {
+            return Err(CallFault::Full);
         }
+        put_product(row, &Grid { cells: right }, self.m, work)?;
+        put_row(relations, self.m, row);
+        grow(left.matrix, self.m);
+        grow(left.inverse, self.m);
+        Ok(())
     }
-}
 
-impl Finished {
+    // Makes `row` the relation after the first m.
+    fn accept<E: Ring>(
+        &self,
+        row: &[E],
+        relations: &mut [E],
+        work: &mut [E],
+        left: &mut Transform<'_, E>,
+        right: &[E],
+    ) -> Result<(), CallFault>
+        ensures same { Same left.old left.new }
+        ensures outcome { Accepting E.model self.now.m self.now.n row.now right.now (lent_add relations.old work.old left.old) (lent_add relations.new work.new left.new) result }
+    {
+        if relations.len() < TABLE
+            || work.len() < TABLE
+            || left.is_short()
+            || right.len() < TABLE
+            || row.len() < self.n
+        {
+            return Err(CallFault::Short);
+        }
+        self.accept_row(&row[..self.n], relations, work, left, right)
+    }
+
     // Adds a relation; the presentation is open again.
     pub fn add<E: Ring>(
         self,
         row: &[E],
         relations: &mut [E],
         work: &mut [E],
-        left: &mut [E],
-        left_inverse: &mut [E],
+        left: &mut Transform<'_, E>,
         right: &[E],
-    ) -> Result<Open, (Finished, CallFault)>
-        ensures { Adding E.model of_finished self row.now right.now (lent_add relations.old work.old left.old left_inverse.old) (lent_add relations.new work.new left.new left_inverse.new) result }
+    ) -> Result<Open, (Presentation<S>, CallFault)>
+        ensures same { Same left.old left.new }
+        ensures outcome { Adding E.model self row.now right.now (lent_add relations.old work.old left.old) (lent_add relations.new work.new left.new) result }
     {
-        match accept(
-            self.m,
-            self.n,
-            row,
-            relations,
-            work,
-            left,
-            left_inverse,
-            right,
-        ) {
-            Ok(()) => {
-                let Finished { m, n, c: _ } = self;
-                Ok(Open { m: m + 1, n, c: 0 })
-            }
+        match self.accept(row, relations, work, left, right) {
+            Ok(()) => Ok(Presentation::new(self.m + 1, self.n, 0)),
             Err(fault) => Err((self, fault)),
         }
     }

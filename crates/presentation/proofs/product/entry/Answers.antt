@@ -4,7 +4,8 @@ use Rattle.presentation.proofs.product.entry.Goals as goal
 
 pub loop-k-preserved : goal.loop-k-preserved
 loop-k-preserved g c =
+    let m = g.E.Ring.model in
     let took = c.in_ok-take.ensures in (
       omega arith,
-      took.2 ∙ dot_more g.E.Ring.model c.loop-k.k c.args.j c.args.row.now c.args.t.now c.index-row-k.result c.index-t-k.result _ (omega arith) (omega arith) c.index-row-k.is c.index-t-k.is c.loop-k.invariant.1,
+      took.2 ∙ dot_more m c.loop-k.k c.args.j c.args.row.now c.args.t.now c.index-row-k.result _ _ (omega arith) c.index-row-k.is c.entry.ensures c.loop-k.invariant.1,
     )

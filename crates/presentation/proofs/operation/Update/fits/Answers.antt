@@ -1,23 +1,24 @@
-use Rattle.std.proofs.Common.{subst, arith}
+use Rattle.std.proofs.Common.{◌≡◌, rules, subst, arith, Ok, MatchResult}
 use Rattle.std.proofs.lemmas.Result.{err_from_is_err_and}
-use Rattle.presentation.proofs.Updates.{entry_is, fit_more, NewAt, new_at, unfit}
+use Rattle.std.specs.Result.{IsErrAnd}
+use Rattle.presentation.specs.Places.{fault_at}
+use Rattle.presentation.proofs.Updates.{fit_more, NewAt, new_at, unfit}
 use Rattle.presentation.proofs.operation.Update.fits.Goals as goal
 
 pub loop-k-preserved : goal.loop-k-preserved
 loop-k-preserved g c =
-    fit_more g.E.Ring.model c.args.self.now c.args.axis c.args.t.now c.loop-k.k c.in_ok-of.field-0 _ g.met.E.Ring.range
-    (subst (NewAt g.E.Ring.model c.position-place.result _) c.in_ok-of.was (new_at g.E.Ring.model c.position-place.result _ c.entry.result c.of.result c.entry.ensures c.of.ensures))
-    (entry_is g.E.Ring.model c.args.self.now c.args.axis c.args.t.now c.loop-k.k c.place.result c.place-in-loop-k.result c.index-t-place.result c.index-t-place-in-loop-k.result
-    (omega arith) (omega arith) (omega arith) (omega arith) c.place.ensures.value c.place-in-loop-k.ensures.value c.index-t-place.is c.index-t-place-in-loop-k.is)
+    let at = fault_at c.args.axis c.args.table c.args.self.now.to c.loop-k.k-counter in
+    let placed : MatchResult c.new_entry.result (λ x. c.map_err.result ≡ Ok x) (λ e. IsErrAnd c.map_err.result (λ f. f ≡ at e)) = search rules in
+    fit_more g.E.Ring.model c.args.self.now c.args.axis c.args.t.now c.loop-k.k-counter c.in_ok-map_err.field-0 g.met.E.Ring.range
+    (subst (NewAt g.E.Ring.model _ _) c.in_ok-map_err.was (new_at g.E.Ring.model at _ c.new_entry.result c.map_err.result c.new_entry.ensures placed))
     c.loop-k.invariant
 
-pub returns-in_err-of : goal.returns-in_err-of
-returns-in_err-of g c =
+pub returns-in_err-map_err : goal.returns-in_err-map_err
+returns-in_err-map_err g c =
+    let at = fault_at c.args.axis c.args.table c.args.self.now.to c.loop-k.k-counter in
+    let placed : MatchResult c.new_entry.result (λ x. c.map_err.result ≡ Ok x) (λ e. IsErrAnd c.map_err.result (λ f. f ≡ at e)) = search rules in
     let p = err_from_is_err_and c.from_residual.result c.from_residual.ensures.1 in
     rw (p.1, p.2)
-    (unfit g.E.Ring.model c.args.self.now c.args.table c.args.axis c.args.t.now c.args.len c.loop-k.k _ c.position-place.result c.in_err-of.field-0.0
-    (omega arith) c.position-place.ensures
-    (subst (NewAt g.E.Ring.model c.position-place.result _) c.in_err-of.was (new_at g.E.Ring.model c.position-place.result _ c.entry.result c.of.result c.entry.ensures c.of.ensures))
-    (entry_is g.E.Ring.model c.args.self.now c.args.axis c.args.t.now c.loop-k.k c.place.result c.place-in-loop-k.result c.index-t-place.result c.index-t-place-in-loop-k.result
-    (omega arith) (omega arith) (omega arith) (omega arith) c.place.ensures.value c.place-in-loop-k.ensures.value c.index-t-place.is c.index-t-place-in-loop-k.is)
+    (unfit g.E.Ring.model c.args.self.now c.args.table c.args.axis c.args.t.now c.args.len c.loop-k.k-counter c.in_err-map_err.field-0.0 (omega arith)
+    (subst (NewAt g.E.Ring.model _ _) c.in_err-map_err.was (new_at g.E.Ring.model at _ c.new_entry.result c.map_err.result c.new_entry.ensures placed))
     c.loop-k.invariant)

@@ -1,0 +1,17 @@
+use Rattle.presentation.specs.Calls.Reach.{start, more}
+use Rattle.presentation.proofs.Steps.{same_none, same_then, long_still}
+use Rattle.presentation.proofs.state.steps.Open.run.Goals as goal
+
+pub loop-count-init : goal.loop-count-init
+loop-count-init g c = record { left = same_none _; right = same_none _; long = c.is_short.ensures.long c.if-is_short.false; reach = start }
+
+pub loop-count-preserved : goal.loop-count-preserved
+loop-count-preserved g c =
+    let before = c.loop-count.invariant in
+    let performed = c.in-Ok.ensures in
+    record {
+      left = same_then before.left performed.left;
+      right = same_then before.right performed.right;
+      long = long_still c.perform.auto.work performed.left performed.right before.long;
+      reach = more _ _ _ _ _ before.reach (record { line = c.in-Some.line; placed = c.in-Some.ensures; made = performed.outcome; shape_is = c.after-state.ensures });
+    }
