@@ -10,7 +10,7 @@
 --   small_size    a number below 2^m has at most m coefficients
 --   size_small    and only such a number has
 --   size_digits   a number from 2^j on and below the next power has j + 1 coefficients
-use Rattle.std.specs.Prelude.{◌≡◌, ℕ, zero, suc, ◌+◌, ◌*◌, ◌/◌, ◌%◌, ◌^◌, ◌<◌, ◌≤◌, Bool, true, false, cond, ◌⊎◌, ◌==◌, ◌≢◌, bit_xor, nat_eq, refl}
+use Rattle.std.specs.Prelude.{◌≡◌, ℕ, zero, suc, ◌+◌, ◌*◌, ◌/◌, ◌%◌, ◌^◌, ◌<◌, ◌≤◌, Bool, true, false, if◌then◌else◌, ◌⊎◌, ◌==◌, ◌≢◌, bit_xor, nat_eq, refl}
 use Rattle.std.proofs.Common.{sym, ap, ap₂, subst, ◌∙◌, inl, inr, pow-suc, arith, pow_mono, shr-shr}
 use Rattle.std.proofs.Math.Nat as nat
 use Rattle.std.proofs.Math.Decide.{dec_le}
@@ -44,7 +44,7 @@ binary_powers : (n : ℕ) → binary n ≡ add_power two (odd n) (binary (n / 2)
 binary_powers n = powers two (binary n) ∙ ap₂ (add_power two) (binary_coefficient n 0 ∙ bit_first n) (binary_half n)
 
 -- twice n, and a digit
-binary_digit : (b : Bool) (n : ℕ) → binary (n * 2 + cond b 1 0) ≡ add_power two b (binary n)
+binary_digit : (b : Bool) (n : ℕ) → binary (n * 2 + (if b then 1 else 0)) ≡ add_power two b (binary n)
 binary_digit true n =
     let e : (n * 2 + 1) % 2 ≡ 1 = omega arith in
     let f : (n * 2 + 1) / 2 ≡ n = omega arith in
@@ -119,9 +119,9 @@ pub binary_held : (m : ℕ) (p : Polynomial two) → size two p ≤ m → (n : �
 binary_held zero p h = (0, omega arith, binary_zero ∙ sym (size_null two p (omega arith)))
 binary_held (suc m) p h =
     let (n, l, e) = binary_held m (drop_power two p) (drop_power_size two p m h) in
-    (n * 2 + cond (p.coefficient 0) 1 0, below (p.coefficient 0) n l, binary_digit (p.coefficient 0) n ∙ ap (add_power two (p.coefficient 0)) e ∙ sym (powers two p))
+    (n * 2 + (if p.coefficient 0 then 1 else 0), below (p.coefficient 0) n l, binary_digit (p.coefficient 0) n ∙ ap (add_power two (p.coefficient 0)) e ∙ sym (powers two p))
   where
-    below : (b : Bool) (n : ℕ) → n < 2 ^ m → n * 2 + cond b 1 0 < 2 ^ suc m
+    below : (b : Bool) (n : ℕ) → n < 2 ^ m → n * 2 + (if b then 1 else 0) < 2 ^ suc m
     below true n l = let e = pow-suc 2 m in omega arith
     below false n l = let e = pow-suc 2 m in omega arith
 

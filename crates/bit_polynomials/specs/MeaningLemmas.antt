@@ -4,7 +4,7 @@
 --   held       each of those is meant by an element
 --   word_fits  a number of which the polynomial fits is a word of 32 bits
 --   unit_one   the unit that normalises is one, since every polynomial is normal
-use Rattle.std.specs.Prelude.{◌≡◌, ℕ, ◌^◌, ◌<◌, ◌≤◌, cond, nat_le}
+use Rattle.std.specs.Prelude.{◌≡◌, ℕ, ◌^◌, ◌<◌, ◌≤◌, if◌then◌else◌, nat_le}
 use Rattle.std.proofs.Common.{sym, ap, ◌∙◌, arith}
 use Rattle.std.proofs.lemmas.Bool.{true_from_ne_false}
 use Rattle.std.proofs.lemmas.Bool.Decides.{nat_tests}
@@ -18,7 +18,7 @@ use Rattle.bit_polynomials.specs.declared.BitPolynomial.{BitPolynomial}
 use Rattle.bit_polynomials.specs.BinaryLemmas.{small_size, size_small, binary_held, binary_one}
 
 -- a word of 32 bits means the polynomial of its bits
-word_means : (n : ℕ) → n < 2 ^ 32 → cond (nat_le n 4294967295) (binary n) (null two) ≡ binary n
+word_means : (n : ℕ) → n < 2 ^ 32 → (if nat_le n 4294967295 then binary n else null two) ≡ binary n
 word_means n h = grind (arith, nat_tests)
 
 pub mean_fits : (e : BitPolynomial) → size two (meaning e) ≤ 32

@@ -27,6 +27,29 @@ pub(crate) fn table(heap: Global) -> Result<Vec<Integer>, AllocError>
     vec![in heap; Integer { value: 0 }; 1024]
 }
 
+// Adds the first n entries of each row to a new presentation.
+fn add_rows(
+    new: Open,
+    rows: &[[Integer; 32]],
+    n: usize,
+    relations: &mut [Integer],
+    work: &mut [Integer],
+    left: &mut Transform<'_, Integer>,
+    right: &[Integer],
+) -> Result<Open, CallFault>
+    requires new { new ≡ shape 0 n 0 }
+    requires few { n ≤ 32 }
+    ensures { IfOk result (λ o. o ≡ shape (length rows.now) n 0) }
+{
+    let mut state = new;
+    for row in rows {
+        state = state
+            .add(&row[..n], relations, work, left, right)
+            .map_err(|(_, fault)| fault)?;
+    }
+    Ok(state)
+}
+
 impl Tables {
     // Tables of zeros.
     pub(crate) fn new(heap: Global) -> Result<Tables, AllocError> {
@@ -55,19 +78,17 @@ impl Tables {
             matrix: &mut self.right,
             inverse: &mut self.right_inverse,
         };
-        let mut state = open(n, &mut right)?;
+        let new = open(n, &mut right)?;
         let (rows, _) = rows.as_chunks::<32>();
-        for row in &rows[..m] {
-            state = state
-                .add(
-                    &row[..n],
-                    &mut self.relations,
-                    &mut self.work,
-                    &mut left,
-                    right.matrix,
-                )
-                .map_err(|(_, fault)| fault)?;
-        }
+        let state = add_rows(
+            new,
+            &rows[..m],
+            n,
+            &mut self.relations,
+            &mut self.work,
+            &mut left,
+            right.matrix,
+        )?;
         match state.run(BUDGET, &mut self.work, &mut left, &mut right) {
             Ok(Run::Done(_, _)) => Ok(()),
             Ok(Run::Spent(_, _)) => Err(Refusal::Spent),

@@ -18,7 +18,7 @@
 --   unit       the unit that turns a member into its normal form: -i from the second quadrant, -1 from the
 --              third, i from the fourth, else 1
 --   inverse    the inverse of that unit, which is its conjugate
-use Rattle.std.specs.Prelude.{◌≡◌, ℕ, ◌+◌, ◌*◌, ◌≤◌, Bool, cond, ◌&&◌, ◌⊎◌, ℤ, pos, negsuc, ◌+ℤ◌, ◌-ℤ◌, ◌*ℤ◌, neg_ℤ, ◌≤ℤ◌, ◌<ℤ◌, int_le, int_lt, unsigned_abs}
+use Rattle.std.specs.Prelude.{◌≡◌, ℕ, ◌+◌, ◌*◌, ◌≤◌, Bool, if◌then◌else◌, ◌&&◌, ◌⊎◌, ℤ, pos, negsuc, ◌+ℤ◌, ◌-ℤ◌, ◌*ℤ◌, neg_ℤ, ◌≤ℤ◌, ◌<ℤ◌, int_le, int_lt, unsigned_abs}
 use Rattle.std.specs.Int.{int_div_euclid}
 use Rattle.algebra.specs.Ring.{Ring, sub}
 
@@ -77,7 +77,7 @@ abbrev pub fourth : Gaussian → Bool
 fourth a = int_le (pos 0) a.re && int_lt a.im (pos 0)
 
 abbrev pub unit : Gaussian → Gaussian
-unit a = cond (second a) (gauss (pos 0) (negsuc 0)) (cond (third a) (gauss (negsuc 0) (pos 0)) (cond (fourth a) (gauss (pos 0) (pos 1)) (gauss (pos 1) (pos 0))))
+unit a = if second a then gauss (pos 0) (negsuc 0) else if third a then gauss (negsuc 0) (pos 0) else if fourth a then gauss (pos 0) (pos 1) else gauss (pos 1) (pos 0)
 
 abbrev pub inverse : Gaussian → Gaussian
 inverse a = conjugate (unit a)

@@ -3,7 +3,7 @@
 --   meaning    the member that an element means: its parts, or zero where one is out of range
 --   Fits       both parts are at most 268435455 in magnitude
 --   gaussians  the model of the kind
-use Rattle.std.specs.Prelude.{cond, ◌&&◌, nat_le, unsigned_abs}
+use Rattle.std.specs.Prelude.{if◌then◌else◌, ◌&&◌, nat_le, unsigned_abs}
 use Rattle.kinds.specs.Model.{Model}
 use Rattle.gaussian_integers.specs.declared.GaussianInteger.{GaussianInteger}
 use Rattle.gaussian_integers.specs.declared.sum.GaussianSum.{GaussianSum}
@@ -11,7 +11,7 @@ use Rattle.gaussian_integers.specs.Gaussian.{Gaussian, gauss, gaussian, size, qu
 use Rattle.gaussian_integers.specs.Parts.{value}
 
 abbrev pub meaning : GaussianInteger → Gaussian
-meaning e = cond (nat_le (unsigned_abs e.re) 268435455 && nat_le (unsigned_abs e.im) 268435455) (gauss e.re e.im) gaussian.zero
+meaning e = if nat_le (unsigned_abs e.re) 268435455 && nat_le (unsigned_abs e.im) 268435455 then gauss e.re e.im else gaussian.zero
 
 abbrev pub Fits : Gaussian → Type 0
 Fits a = Within 268435455 a

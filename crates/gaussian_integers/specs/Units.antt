@@ -4,7 +4,7 @@
 --   normal_once   two normal unit multiples are the same
 --   unit_inverse  the unit that normalises, times its inverse
 --   unit_normal   a member times that unit is normal
-use Rattle.std.specs.Prelude.{◌≡◌, ℕ, zero, suc, Bool, true, false, cond, ◌⊎◌, List, [], ◌∷◌, ℤ, pos, negsuc, neg_ℤ, ◌≤ℤ◌, ◌<ℤ◌, unsigned_abs, refl}
+use Rattle.std.specs.Prelude.{◌≡◌, ℕ, zero, suc, Bool, true, false, if◌then◌else◌, ◌⊎◌, List, [], ◌∷◌, ℤ, pos, negsuc, neg_ℤ, ◌≤ℤ◌, ◌<ℤ◌, unsigned_abs, refl}
 use Rattle.std.proofs.Common.{sym, ap, subst, ◌∙◌, inl, inr, arith}
 use Rattle.std.proofs.lemmas.Int.{ints}
 use Rattle.std.proofs.lemmas.Bool.Decides.{nat_tests}
@@ -88,7 +88,7 @@ normal_once a u v e (inr p) (inr q) = first_once a u v e p q
 
 -- the unit by the quadrant
 abbrev chosen : Bool → Bool → Bool → Gaussian
-chosen p q r = cond p (gauss (pos 0) (negsuc 0)) (cond q (gauss (negsuc 0) (pos 0)) (cond r (gauss (pos 0) (pos 1)) (gauss (pos 1) (pos 0))))
+chosen p q r = if p then gauss (pos 0) (negsuc 0) else if q then gauss (negsuc 0) (pos 0) else if r then gauss (pos 0) (pos 1) else gauss (pos 1) (pos 0)
 
 pub unit_inverse : (a : Gaussian) → gaussian.mul (unit a) (inverse a) ≡ gaussian.one
 unit_inverse a = go (second a) (third a) (fourth a)

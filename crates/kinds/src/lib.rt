@@ -1,7 +1,7 @@
 // The interface of a number system: a ring with sums of products, and division with a remainder.
 #![tactic(auto)]
 
-ghost use Rattle.std.specs.Prelude.{◌≡◌, Decides};
+ghost use Rattle.std.specs.Prelude.{◌≡◌, IsTrue, ◌↔◌};
 ghost use Rattle.algebra.specs.Ring.{RingLaws, Domain, sub};
 ghost use Rattle.kinds.specs.Laws.{RangeLaws, SizeLaws, DivisionLaws, NormalLaws};
 ghost use Rattle.kinds.specs.Model.{Model, product};
@@ -63,11 +63,11 @@ pub trait Ring: Copy {
 
     // Whether both mean the same member. No derived `==`: two stored values may mean one member.
     fn equals(&self, other: &Self) -> bool
-        ensures { Decides result (model.mean self.now ≡ model.mean other.now) };
+        ensures { IsTrue result ↔ (model.mean self.now ≡ model.mean other.now) };
 
     // Whether the element means zero.
     fn is_zero(&self) -> bool
-        ensures { Decides result (model.mean self.now ≡ model.ring.zero) }
+        ensures { IsTrue result ↔ (model.mean self.now ≡ model.ring.zero) }
     {
         let mut zero = *self;
         zero.set_zero();
@@ -101,7 +101,7 @@ pub trait Sums<E: Ring<Sum = Self>>: Copy {
 
     // Whether both mean the same member.
     fn equals(&self, other: &Self) -> bool
-        ensures { Decides result (E.Ring.model.total self.now ≡ E.Ring.model.total other.now) };
+        ensures { IsTrue result ↔ (E.Ring.model.total self.now ≡ E.Ring.model.total other.now) };
 
     // Puts the sum into an element.
     fn store(&self, out: &mut E) -> Result<(), ElementFault>

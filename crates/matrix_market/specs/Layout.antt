@@ -33,7 +33,7 @@
 --   column          integers written one to a line
 --   opening         the first two lines that are written
 --   text            what is written of a matrix
-use Rattle.std.specs.Prelude.{ℕ, zero, suc, ◌+◌, ◌-◌, ◌*◌, Bool, true, false, cond, ◌&&◌, ◌||◌, List, [], ◌∷◌, ◌++◌, map, length, take, drop, ℤ, pos, neg_ℤ, unsigned_abs, Some, None, Ok, Err, codes, decimal, Option, Result, ◌==◌, nat_le}
+use Rattle.std.specs.Prelude.{ℕ, zero, suc, ◌+◌, ◌-◌, ◌*◌, Bool, true, false, if◌then◌else◌, ◌&&◌, ◌||◌, List, [], ◌∷◌, ◌++◌, map, length, take, drop, ℤ, pos, neg_ℤ, unsigned_abs, Some, None, Ok, Err, codes, decimal, Option, Result, ◌==◌, nat_le}
 use Rattle.std.specs.Char.{to_ascii_lowercase, is_ascii_digit}
 use Rattle.std.specs.Str.{bytes_eq}
 use Rattle.std.specs.Fmt.{signed_decimal}
@@ -52,7 +52,7 @@ onto b (p ∷ ps) = (b ∷ p) ∷ ps
 
 abbrev pub lines : Bytes → List Bytes
 lines [] = []
-lines (b ∷ bs) = cond (b == 10) ([] ∷ lines bs) (onto b (lines bs))
+lines (b ∷ bs) = if b == 10 then [] ∷ lines bs else onto b (lines bs)
 
 abbrev pub blank : ℕ → Bool
 blank b = b == 32 || (b == 9 || b == 13)
@@ -63,25 +63,25 @@ ends (b ∷ bs) = blank b
 
 abbrev pub fields : Bytes → List Bytes
 fields [] = []
-fields (b ∷ bs) = cond (blank b) (fields bs) (cond (ends bs) ((b ∷ []) ∷ fields bs) (onto b (fields bs)))
+fields (b ∷ bs) = if blank b then fields bs else if ends bs then (b ∷ []) ∷ fields bs else onto b (fields bs)
 
 abbrev pub number : ℕ → Bytes → Option ℕ
 number n [] = Some n
-number n (c ∷ cs) = cond (is_ascii_digit c) (number (10 * n + (c - 48)) cs) None
+number n (c ∷ cs) = if is_ascii_digit c then number (10 * n + (c - 48)) cs else None
 
 abbrev pub digits : ℕ → Bytes → Option ℕ
-digits k ds = cond (nat_le 1 (length ds) && nat_le (length ds) k) (number 0 ds) None
+digits k ds = if nat_le 1 (length ds) && nat_le (length ds) k then number 0 ds else None
 
 abbrev pub in_range : ℤ → Result ℤ (Option ElementFault)
-in_range z = cond (nat_le (unsigned_abs z) 536870911) (Ok z) (Err (Some Range))
+in_range z = if nat_le (unsigned_abs z) 536870911 then Ok z else Err (Some Range)
 
 abbrev pub ranged : Bool → Option ℕ → Result ℤ (Option ElementFault)
 ranged minus None = Err None
-ranged minus (Some n) = in_range (cond minus (neg_ℤ (pos n)) (pos n))
+ranged minus (Some n) = in_range (if minus then neg_ℤ (pos n) else pos n)
 
 abbrev pub integer : Bytes → Result ℤ (Option ElementFault)
 integer [] = Err None
-integer (c ∷ cs) = cond (c == 45) (ranged true (digits 18 cs)) (ranged false (digits 18 (c ∷ cs)))
+integer (c ∷ cs) = if c == 45 then ranged true (digits 18 cs) else ranged false (digits 18 (c ∷ cs))
 
 abbrev pub named : List Bytes → List Bytes → Bool
 named [] [] = true
@@ -105,7 +105,7 @@ is_comment_line (b ∷ bs) = b == 37
 abbrev pub shape : Option ℕ → Option ℕ → Option (ℕ × ℕ)
 shape None n = None
 shape (Some m) None = None
-shape (Some m) (Some n) = cond (in_bounds m n) (Some (m, n)) None
+shape (Some m) (Some n) = if in_bounds m n then Some (m, n) else None
 
 abbrev pub sizes : List Bytes → Option (ℕ × ℕ)
 sizes [] = None
@@ -146,14 +146,14 @@ sized (Some p) at ls = shaped p.0 p.1 (entries (at + 1) (p.0 * p.1) ls)
 
 abbrev pub body : ℕ → List Bytes → Result Matrix ReadFault
 body at [] = Err (SizeLine at)
-body at (l ∷ ls) = cond (is_comment_line l) (body (at + 1) ls) (sized (sizes (fields l)) at ls)
+body at (l ∷ ls) = if is_comment_line l then body (at + 1) ls else sized (sizes (fields l)) at ls
 
 abbrev pub headed : List Bytes → Result Matrix ReadFault
 headed [] = Err (Header 1)
-headed (l ∷ ls) = cond (is_header_line l) (body 2 ls) (Err (Header 1))
+headed (l ∷ ls) = if is_header_line l then body 2 ls else Err (Header 1)
 
 abbrev pub parse : Bytes → Result Matrix ReadFault
-parse bs = cond (nat_le (length bs) 65536) (headed (lines bs)) (Err (LeftOver 1))
+parse bs = if nat_le (length bs) 65536 then headed (lines bs) else Err (LeftOver 1)
 
 abbrev pub column : List ℤ → Bytes
 column [] = []

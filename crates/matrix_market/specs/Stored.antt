@@ -9,7 +9,7 @@
 --   Appends   bs was put at `at`, up to r, and what follows is as it was
 --   refusal   why the writer refuses: Short of the buffer or the table first, then Sizes
 --   Wrote     what the writer answers and leaves: the text and its length, or a refusal and the buffer as it was
-use Rattle.std.specs.Prelude.{◌≡◌, ℕ, zero, suc, ◌+◌, ◌*◌, cond, ◌&&◌, List, [], ◌∷◌, ◌++◌, length, take, drop, ℤ, pos, Some, None, Ok, Err, Option, Result, nat_le, slice_index_or, slice_set}
+use Rattle.std.specs.Prelude.{◌≡◌, ℕ, zero, suc, ◌+◌, ◌*◌, if◌then◌else◌, ◌&&◌, List, [], ◌∷◌, ◌++◌, length, take, drop, ℤ, pos, Some, None, Ok, Err, Option, Result, nat_le, slice_index_or, slice_set}
 use Rattle.kinds.specs.declared.ElementFault.{ElementFault}
 use Rattle.integers.specs.Meaning.{meaning}
 use Rattle.integers.specs.declared.Integer.{Integer}
@@ -41,7 +41,7 @@ loaded (Ok x) t = (Ok (x.0, x.1), placed x.0 0 x.2 t)
 loaded (Err e) t = (Err e, t)
 
 abbrev pub reading : Bytes → List Integer → Result (ℕ × ℕ) ReadFault × List Integer
-reading bs t = loaded (cond (nat_le 1024 (length t)) (parse bs) (Err read.Short)) t
+reading bs t = loaded (if nat_le 1024 (length t) then parse bs else Err read.Short) t
 
 pub record Appends (at : ℕ) (bs was : Bytes) (r : ℕ) (is : Bytes) : Type 0 where
   pub end : r ≡ at + length bs
@@ -50,9 +50,9 @@ pub record Appends (at : ℕ) (bs was : Bytes) (r : ℕ) (is : Bytes) : Type 0 w
 
 abbrev pub refusal : ℕ → ℕ → List Integer → Bytes → Option WriteFault
 refusal m n t out =
-    cond (nat_le 12288 (length out) && nat_le 1024 (length t))
-    (cond (in_bounds m n) None (Some Sizes))
-    (Some Short)
+    if nat_le 12288 (length out) && nat_le 1024 (length t)
+    then (if in_bounds m n then None else Some Sizes)
+    else Some Short
 
 abbrev pub Wrote : ℕ → ℕ → List Integer → Bytes → Result ℕ WriteFault → Bytes → Type 0
 Wrote m n t was (Ok r) is = (refusal m n t was ≡ None) × Appends 0 (text m n (members m t 0 (m * n))) was r is

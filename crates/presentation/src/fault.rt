@@ -45,7 +45,7 @@ pub enum CallFault {
 }
 
 impl CallFault {
-    // The refusal's number; that of a table's fault is its element's.
+    // The refusal's number in the rules; that of a table's fault is its element's.
     pub fn number(self) -> u8
         ensures { result ≡ call_number self }
     {

@@ -9,7 +9,8 @@ use crate::grid::Grid;
 use crate::table::{Axis, Transform, swap_along};
 use kinds::{ElementFault, Ring};
 
-// How the entries of a row or column come from those of another.
+// How the entries of a row or column come from those of another. Data and no closure: the inverse is made of it, and
+// contracts speak of it.
 #[derive(Drop)]
 pub enum Change<E> {
     // times a unit, kept with its inverse
@@ -82,7 +83,7 @@ impl<E: Ring> Update<E> {
         self.entry(&x, &y)
     }
 
-    // Looks whether the new entries of row or column `to` fit.
+    // Looks whether the new entries of row or column `to` fit, by their numbers: a column is no slice.
     fn fits(&self, t: &Grid<'_, E>, table: Table, axis: Axis, len: usize) -> Result<(), TableFault>
         requires within { Within (Combine self.now) }
         requires used { len ≤ 32 }

@@ -1,5 +1,5 @@
 // Which line of the step applies: the decision, apart from its performance.
-ghost use Rattle.std.specs.Prelude.{◌≡◌, ◌+◌, ◌*◌, ◌<◌, ◌≤◌, length, Decides, MatchOption, ◌≢◌};
+ghost use Rattle.std.specs.Prelude.{◌≡◌, ◌+◌, ◌*◌, ◌<◌, ◌≤◌, length, MatchOption, ◌≢◌, IsTrue, ◌↔◌};
 ghost use Rattle.presentation.specs.declared.operation.Operation.TheVariants.{Combine};
 ghost use Rattle.presentation.specs.Rests as rests;
 ghost use Rattle.presentation.specs.Rests.{RestZero, Pivotal, Zeros, FirstNonzero, Better, DividedBy, AllDivided, FirstUndivided, Placed};
@@ -30,7 +30,7 @@ pub enum Line<E> {
 }
 
 impl Open {
-    // A nonzero entry of least size, of the lowest row and then column.
+    // A nonzero entry of least size, of the lowest row and then column. A chain would need a closure that makes one.
     fn pivot<E: Euclid>(&self, w: &Grid<'_, E>) -> Option<(usize, usize)>
         ensures { MatchOption result (RestZero E.Ring.model self.now w.now) (λ p. Pivotal E.Ring.model self.now w.now p.0 p.1) }
     {
@@ -124,7 +124,7 @@ impl Open {
 
 // Whether an entry of this size takes the place of the least so far, which is kept with its size.
 fn is_better(size: u64, least: Option<(u64, (usize, usize))>) -> bool
-    ensures { Decides result (Better size least) }
+    ensures { IsTrue result ↔ (Better size least) }
 {
     size > 0 && least.is_none_or(|(least, _)| size < least)
 }
@@ -132,7 +132,7 @@ fn is_better(size: u64, least: Option<(u64, (usize, usize))>) -> bool
 // Whether b divides a.
 fn divides<E: Euclid>(b: &E, a: &E) -> bool
     requires { E.Ring.model.mean b.now ≢ E.Ring.model.ring.zero }
-    ensures { Decides result (DividedBy E.Ring.model (E.Ring.model.mean b.now) (E.Ring.model.mean a.now)) }
+    ensures { IsTrue result ↔ (DividedBy E.Ring.model (E.Ring.model.mean b.now) (E.Ring.model.mean a.now)) }
 {
     let mut quotient = *a;
     let mut remainder = *a;

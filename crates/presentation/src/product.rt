@@ -1,5 +1,5 @@
 // A row times the column transform.
-ghost use Rattle.std.specs.Prelude.{◌<◌, ◌≤◌, length, Decides};
+ghost use Rattle.std.specs.Prelude.{◌<◌, ◌≤◌, length, IsTrue, ◌↔◌};
 ghost use Rattle.presentation.specs.Operations.{NewEntry};
 ghost use Rattle.presentation.specs.Products.{dot, ZeroRow, Putting};
 
@@ -10,7 +10,7 @@ use kinds::{ElementFault, Ring, Sums};
 
 // Whether the elements of a row are zero.
 fn is_zero_row<E: Ring>(row: &[E]) -> bool
-    ensures { Decides result (ZeroRow E.model (length row.now) row.now) }
+    ensures { IsTrue result ↔ (ZeroRow E.model (length row.now) row.now) }
 {
     row.iter().all(|x| x.is_zero())
 }

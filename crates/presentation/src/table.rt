@@ -1,13 +1,15 @@
 // A table of rows of 32, and writing its rows and columns.
 ghost use Rattle.std.specs.Prelude.{◌⊎◌, true, false, ◌≡◌, ◌+◌, ◌*◌, ◌<◌, ◌≤◌, length};
 ghost use Rattle.presentation.specs.declared.table.Axis.TheVariants.{Row};
+ghost use Rattle.presentation.specs.Lent.{Same};
 ghost use Rattle.presentation.specs.Places as places;
 ghost use Rattle.presentation.specs.Places.{Written, Swapped, Grown};
 
 use crate::fault::{Table, TableFault};
 use kinds::{ElementFault, Ring};
 
-// The elements of a table at least.
+// The elements of a table at least. What writes a table asks for them in a clause: in a struct that holds the lent slice
+// each method would have to say too that it still holds that slice.
 pub const TABLE: usize = 1024;
 
 // A transform that is lent with its inverse: P and P*, or Q and Q*.
@@ -38,6 +40,21 @@ impl<E> Transform<'_, E> {
         ensures { result.now ≡ self.now.inverse.now }
     {
         self.inverse
+    }
+}
+
+impl<E: Ring> Transform<'_, E> {
+    // A transform and its inverse of size × size each grow by a row and a column of the identity.
+    pub(crate) fn grow(&mut self, size: usize)
+        requires matrix { 1024 ≤ length self.old.matrix.now }
+        requires inverse { 1024 ≤ length self.old.inverse.now }
+        requires room { size < 32 }
+        ensures same { Same self.old self.new }
+        ensures matrix { Grown E.model size self.old.matrix.now self.new.matrix.now }
+        ensures inverse { Grown E.model size self.old.inverse.now self.new.inverse.now }
+    {
+        grow(self.matrix, size);
+        grow(self.inverse, size);
     }
 }
 
@@ -119,7 +136,7 @@ pub(crate) fn put_row<E: Copy>(t: &mut [E], i: usize, line: &[E])
     t[32 * i..32 * i + line.len()].copy_from_slice(line);
 }
 
-// Swaps rows or columns a and b.
+// Swaps rows or columns a and b, entry by entry: a column is no slice.
 pub(crate) fn swap_along<E: Copy>(t: &mut [E], axis: Axis, a: usize, b: usize, len: usize)
     requires long { 1024 ≤ length t.old }
     requires first { a < 32 }
@@ -133,7 +150,7 @@ pub(crate) fn swap_along<E: Copy>(t: &mut [E], axis: Axis, a: usize, b: usize, l
 }
 
 // A table of size × size grows by a row and a column of the identity.
-pub(crate) fn grow<E: Ring>(t: &mut [E], size: usize)
+fn grow<E: Ring>(t: &mut [E], size: usize)
     requires long { 1024 ≤ length t.old }
     requires room { size < 32 }
     ensures { Grown E.model size t.old t.new }

@@ -7,7 +7,7 @@ use crate::fault::CallFault;
 use crate::grid::Grid;
 use crate::product::put_product;
 use crate::state::{Open, Presentation};
-use crate::table::{TABLE, Transform, grow, put_row};
+use crate::table::{TABLE, Transform, put_row};
 use kinds::Ring;
 
 // Opens a presentation of n generators and no relations.
@@ -22,8 +22,7 @@ pub fn open<E: Ring>(n: usize, right: &mut Transform<'_, E>) -> Result<Open, Cal
         return Err(CallFault::Generators);
     }
     for k in 0..n {
-        grow(right.matrix, k);
-        grow(right.inverse, k);
+        right.grow(k);
     }
     Ok(Presentation::new(0, n, 0))
 }
@@ -48,8 +47,7 @@ impl<S> Presentation<S> {
         }
         put_product(row, &Grid { cells: right }, self.m, work)?;
         put_row(relations, self.m, row);
-        grow(left.matrix, self.m);
-        grow(left.inverse, self.m);
+        left.grow(self.m);
         Ok(())
     }
 
@@ -88,6 +86,7 @@ impl<S> Presentation<S> {
         ensures same { Same left.old left.new }
         ensures outcome { Adding E.model self row.now right.now (lent_add relations.old work.old left.old) (lent_add relations.new work.new left.new) result }
     {
+        // no `?`, which would lose the state
         match self.accept(row, relations, work, left, right) {
             Ok(()) => Ok(Presentation::new(self.m + 1, self.n, 0)),
             Err(fault) => Err((self, fault)),
