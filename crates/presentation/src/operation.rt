@@ -21,7 +21,8 @@ pub enum Change<E> {
     Subtract(E),
 }
 
-// Row or column `to` is changed by row or column `from`; the two are one in scaling.
+// Row or column `to` is changed by row or column `from`; the two are one in scaling. That they are among the first 32 is a
+// clause: with a ghost field no definition could write an update down.
 #[derive(Drop)]
 pub struct Update<E> {
     pub change: Change<E>,

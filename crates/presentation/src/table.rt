@@ -65,6 +65,7 @@ pub enum Axis {
     Column,
 }
 
+// Numbers of lines and their lengths stay plain numbers under clauses: a type for them would be made anew at every call.
 impl Axis {
     // The place of entry k of row or column i.
     pub(crate) fn place(self, i: usize, k: usize) -> usize
