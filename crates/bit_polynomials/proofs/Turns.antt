@@ -117,3 +117,8 @@ module _ (q left b n m : ℕ) (is_b : n ≡ size two (binary b)) (is-left : m �
       let (d, e) = degree two (binary b) some in
       let f : size two (binary left) ≡ suc (m - n + d) = omega arith in
       subst (λ y. size two (binary (bit_xor left y)) < size two (binary left)) (sym up) (turn_smaller left b (m - n) d e f)
+
+-- what the loops of `multiply` and `long_division` need
+pub ruleset product_turns = (multiply_start, multiply_end, product_again, product_less)
+
+pub ruleset division_turns = (division_start, division_end, division_again, division_less, shift_fits)

@@ -41,7 +41,7 @@ pub(crate) fn length(a: u32) -> u32
 }
 
 // The product: for each power of a, from the highest down, b is added, moved up by it.
-#[tactic(auto, using(crate::proofs::Turns::multiply_start, crate::proofs::Turns::multiply_end, crate::proofs::Turns::product_again, crate::proofs::Turns::product_less))]
+#[tactic(auto, using(crate::proofs::Turns::product_turns))]
 pub(crate) fn multiply(a: u32, b: u32) -> u64
     ensures { binary result ≡ times two (binary a) (binary b) }
 {
@@ -56,7 +56,7 @@ pub(crate) fn multiply(a: u32, b: u32) -> u64
 }
 
 // Quotient and remainder: b, moved up to the highest power of what is left of a, is taken away from it.
-#[tactic(auto, using(crate::proofs::Turns::division_start, crate::proofs::Turns::division_end, crate::proofs::Turns::division_again, crate::proofs::Turns::division_less, crate::proofs::Turns::shift_fits))]
+#[tactic(auto, using(crate::proofs::Turns::division_turns))]
 pub(crate) fn long_division(a: u32, b: u32) -> (u32, u32)
     requires divisor { binary b ≢ null two }
     ensures quotient { binary result.0 ≡ quotient two (binary a) (binary b) }
