@@ -7,7 +7,7 @@ use std::test::Fail;
 
 const RANGE: Result<(), ElementFault> = Err(ElementFault::Range);
 
-fn integer(value: i32) -> Integer
+pub(crate) fn integer(value: i32) -> Integer
     ensures { result.value ≡ value }
 {
     Integer { value }

@@ -1,4 +1,5 @@
 // Reductions of integer matrices: counts of steps, diagonals and refusals.
+use crate::numbers::integer;
 use integers::Integer;
 use kinds::ElementFault;
 use presentation::{CallFault, Run, Step, Table, TableFault, Transform, open};
@@ -13,10 +14,6 @@ enum Outcome {
     NotAdded(CallFault),
 }
 
-fn integer(value: i32) -> Integer {
-    Integer { value }
-}
-
 // A row of at most five entries.
 fn row(r: &[i32; 5]) -> [Integer; 5] {
     [
@@ -28,7 +25,8 @@ fn row(r: &[i32; 5]) -> [Integer; 5] {
     ]
 }
 
-// The outcome of rows of n entries under a budget.
+// The outcome of rows of n entries under a budget. Six arrays and no struct of them: the checker does not cover an element
+// of an array in a struct of which another field is lent.
 fn reduced(n: usize, rows: &[[i32; 5]], budget: u32) -> Outcome {
     let mut a = [integer(0); 1024];
     let mut w = [integer(0); 1024];

@@ -61,6 +61,7 @@ impl<'a> Body<'a> {
             (λ e. filled_by self.now table.old ≡ Err e) }
     {
         let mut lines = self.lines;
+        // k is the entry's number, by which its place goes
         for k in 0..self.sizes.count() {
             table[self.sizes.place(k)] = next_entry(&mut lines)?;
         }

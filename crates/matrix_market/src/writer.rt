@@ -50,6 +50,7 @@ fn put_entries(out: &mut [u8], at: usize, sizes: Sizes, table: &[Integer]) -> us
     ensures bound { result ≤ at + 11264 }
 {
     let mut end = at;
+    // k is the entry's number, by which its place goes
     for k in 0..sizes.count() {
         let after = put_number(out, end, table[sizes.place(k)].get());
         end = put(out, after, b"\n");

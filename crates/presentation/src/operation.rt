@@ -97,7 +97,7 @@ impl<E: Ring> Update<E> {
         Ok(())
     }
 
-    // Writes the new entries of row or column `to`, which fit.
+    // Writes the new entries of row or column `to`, which fit, by their numbers too.
     fn apply(&self, t: &mut [E], axis: Axis, len: usize)
         requires long { 1024 ≤ length t.old }
         requires within { Within (Combine self.now) }

@@ -56,7 +56,7 @@ impl Open {
         (c + 1..len).find(|k| !w.entry(axis, c, *k).is_zero())
     }
 
-    // The first entry, by rows and then columns, that the pivot does not divide.
+    // The first entry, by rows and then columns, that the pivot does not divide; by two loops, as `pivot`.
     fn first_undivided<E: Euclid>(&self, w: &Grid<'_, E>, pivot: &E) -> Option<(usize, usize)>
         requires nonzero { E.Ring.model.mean pivot.now ≢ E.Ring.model.ring.zero }
         ensures { MatchOption result (AllDivided E.Ring.model self.now w.now (E.Ring.model.mean pivot.now)) (λ p. FirstUndivided E.Ring.model self.now w.now (E.Ring.model.mean pivot.now) p.0 p.1) }

@@ -150,7 +150,7 @@ pub(crate) fn swap_along<E: Copy>(t: &mut [E], axis: Axis, a: usize, b: usize, l
     }
 }
 
-// A table of size × size grows by a row and a column of the identity.
+// A table of size × size grows by a row and a column of the identity, each written by its numbers: a column is no slice.
 fn grow<E: Ring>(t: &mut [E], size: usize)
     requires long { 1024 ≤ length t.old }
     requires room { size < 32 }

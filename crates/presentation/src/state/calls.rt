@@ -21,6 +21,7 @@ pub fn open<E: Ring>(n: usize, right: &mut Transform<'_, E>) -> Result<Open, Cal
     if n == 0 || n > 32 {
         return Err(CallFault::Generators);
     }
+    // k is the size so far
     for k in 0..n {
         right.grow(k);
     }
