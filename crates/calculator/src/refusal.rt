@@ -1,4 +1,4 @@
-// Why there is no form.
+// Refusals: their numbers, and what they print.
 ghost use Rattle.std.specs.Prelude.{◌≡◌};
 ghost use Rattle.calculator.specs.declared.refusal.Refusal.TheVariants as refusal;
 ghost use Rattle.calculator.specs.Numbered.{number, said};

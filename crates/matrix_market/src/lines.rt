@@ -26,7 +26,7 @@ impl<'a> Lines<'a> {
         }
     }
 
-    // The next line. No Iterator's `next`, since callers ask for the number before each line.
+    // The next line. Not `Iterator::next`: the number is wanted also where no line is left.
     pub(crate) fn next_line(&mut self) -> Option<&'a [u8]>
         ensures line { MatchOption result
             (left self.old ≡ [])

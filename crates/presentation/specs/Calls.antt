@@ -5,7 +5,7 @@
 --   Opening      what open answers and leaves of Q and Q*
 --   Accepted     what an accepted relation does to the tables
 --   Accepting    a relation is accepted, or refused with the tables as found
---   Adding       what add answers and leaves, from either state
+--   Adding       what add answers and leaves
 --   after        the shape after a line: the corner rises by line 8 alone
 --   by_rows      the tables that an operation on rows is performed on: W, P, P*
 --   by_columns   those for an operation on columns: W, Q, Q*

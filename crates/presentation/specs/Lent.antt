@@ -2,9 +2,9 @@
 --
 --   Same       a lent transform and its inverse still lie in the same memory, of the same length
 --   LentAdd    what add writes: A, W, P, P*
---   lent_add   a table, another, and a transform with its inverse as such
+--   lent_add   two tables, and a transform with its inverse, as such
 --   LentStep   what step and run are lent: W, P, P*, Q, Q*
---   lent_step  a table and two transforms with their inverses as such
+--   lent_step  a table, and two transforms with their inverses, as such
 use Rattle.std.specs.Prelude.{◌≡◌, List, length}
 use Rattle.presentation.specs.declared.table.Transform.{Transform}
 

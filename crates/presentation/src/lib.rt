@@ -4,6 +4,7 @@
 mod fault;
 mod grid;
 mod operation;
+mod pivot;
 mod prescribe;
 mod product;
 mod state;

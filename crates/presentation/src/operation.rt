@@ -30,7 +30,7 @@ pub struct Update<E> {
     pub to: usize,
 }
 
-// An elementary operation on rows or columns.
+// An elementary operation on rows or columns. Data and no closure, as `Change`.
 #[derive(Drop)]
 pub enum Operation<E> {
     Swap(usize, usize),

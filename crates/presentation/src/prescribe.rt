@@ -1,11 +1,12 @@
 // Which line of the step applies: the decision, apart from its performance.
-ghost use Rattle.std.specs.Prelude.{◌≡◌, ◌+◌, ◌*◌, ◌<◌, ◌≤◌, length, MatchOption, ◌≢◌, IsTrue, ◌↔◌};
+ghost use Rattle.std.specs.Prelude.{◌≡◌, ◌<◌, ◌≤◌, MatchOption, IsTrue, ◌↔◌};
 ghost use Rattle.presentation.specs.declared.operation.Operation.TheVariants.{Combine};
 ghost use Rattle.presentation.specs.Rests as rests;
-ghost use Rattle.presentation.specs.Rests.{RestZero, Pivotal, Zeros, FirstNonzero, Better, DividedBy, AllDivided, FirstUndivided, Placed};
+ghost use Rattle.presentation.specs.Rests.{RestZero, Pivotal, Zeros, FirstNonzero, Better, AllDivided, FirstUndivided, Placed};
 
 use crate::grid::Grid;
 use crate::operation::{Change, Operation, Update};
+use crate::pivot::Pivot;
 use crate::state::Open;
 use crate::table::Axis;
 use kinds::Euclid;
@@ -57,13 +58,16 @@ impl Open {
     }
 
     // The first entry, by rows and then columns, that the pivot does not divide; by two loops, as `pivot`.
-    fn first_undivided<E: Euclid>(&self, w: &Grid<'_, E>, pivot: &E) -> Option<(usize, usize)>
-        requires nonzero { E.Ring.model.mean pivot.now ≢ E.Ring.model.ring.zero }
-        ensures { MatchOption result (AllDivided E.Ring.model self.now w.now (E.Ring.model.mean pivot.now)) (λ p. FirstUndivided E.Ring.model self.now w.now (E.Ring.model.mean pivot.now) p.0 p.1) }
+    fn first_undivided<E: Euclid>(
+        &self,
+        w: &Grid<'_, E>,
+        pivot: &Pivot<E>,
+    ) -> Option<(usize, usize)>
+        ensures { MatchOption result (AllDivided E.Ring.model self.now w.now (E.Ring.model.mean pivot.now.element)) (λ p. FirstUndivided E.Ring.model self.now w.now (E.Ring.model.mean pivot.now.element) p.0 p.1) }
     {
         for i in self.c..self.m {
             for j in self.c..self.n {
-                if !divides(pivot, &w.entry(Axis::Row, i, j)) {
+                if !pivot.divides(&w.entry(Axis::Row, i, j)) {
                     return Some((i, j));
                 }
             }
@@ -72,11 +76,12 @@ impl Open {
     }
 
     // The pivot, where it stands at the corner.
-    fn corner<E: Euclid>(&self, w: &Grid<'_, E>) -> E
+    fn corner<E: Euclid>(&self, w: &Grid<'_, E>) -> Pivot<E>
         requires { Pivotal E.Ring.model self.now w.now self.now.c self.now.c }
-        ensures { E.Ring.model.mean result ≢ E.Ring.model.ring.zero }
     {
-        w.entry(Axis::Row, self.c, self.c)
+        Pivot {
+            element: w.entry(Axis::Row, self.c, self.c),
+        }
     }
 
     // The line that applies where the pivot stands at the corner.
@@ -85,20 +90,20 @@ impl Open {
         ensures { Placed self.now result }
     {
         let pivot = self.corner(w);
-        let mut unit = pivot;
-        let mut inverse = pivot;
-        pivot.normalise(&mut unit, &mut inverse);
-        let mut one = pivot;
+        let mut unit = pivot.element;
+        let mut inverse = pivot.element;
+        pivot.element.normalise(&mut unit, &mut inverse);
+        let mut one = pivot.element;
         one.set_one();
         if !unit.equals(&one) {
             return Line::Normalise { unit, inverse };
         }
         if let Some(row) = self.first_nonzero(w, Axis::Column, self.m) {
-            let quotient = quotient(&w.entry(Axis::Row, row, self.c), &pivot);
+            let quotient = pivot.quotient(&w.entry(Axis::Row, row, self.c));
             return Line::ReduceRow { row, quotient };
         }
         if let Some(column) = self.first_nonzero(w, Axis::Row, self.n) {
-            let quotient = quotient(&w.entry(Axis::Row, self.c, column), &pivot);
+            let quotient = pivot.quotient(&w.entry(Axis::Row, self.c, column));
             return Line::ReduceColumn { column, quotient };
         }
         match self.first_undivided(w, &pivot) {
@@ -127,32 +132,6 @@ fn is_better(size: u64, least: Option<(u64, (usize, usize))>) -> bool
     ensures { IsTrue result ↔ (Better size least) }
 {
     size > 0 && least.is_none_or(|(least, _)| size < least)
-}
-
-// Whether b divides a.
-fn divides<E: Euclid>(b: &E, a: &E) -> bool
-    requires { E.Ring.model.mean b.now ≢ E.Ring.model.ring.zero }
-    ensures { IsTrue result ↔ (DividedBy E.Ring.model (E.Ring.model.mean b.now) (E.Ring.model.mean a.now)) }
-{
-    let mut quotient = *a;
-    let mut remainder = *a;
-    match a.divide(b, &mut quotient, &mut remainder) {
-        Ok(()) => remainder.is_zero(),
-        Err(_) => unreachable!(),
-    }
-}
-
-// The quotient of a by b.
-fn quotient<E: Euclid>(a: &E, b: &E) -> E
-    requires { E.Ring.model.mean b.now ≢ E.Ring.model.ring.zero }
-    ensures { E.Ring.model.mean result ≡ E.Ring.model.quotient (E.Ring.model.mean a.now) (E.Ring.model.mean b.now) }
-{
-    let mut quotient = *a;
-    let mut remainder = *a;
-    match a.divide(b, &mut quotient, &mut remainder) {
-        Ok(()) => quotient,
-        Err(_) => unreachable!(),
-    }
 }
 
 impl<E: Euclid> Line<E> {

@@ -47,7 +47,7 @@ pub(crate) fn put_product<E: Ring>(
     zero.set_zero();
     let mut line = [zero; 32];
     if !is_zero_row(row) {
-        // j is the column, which the fault names
+        // j is the column, which the fault names and the place of the new entry goes by
         for j in 0..row.len() {
             line[j] = entry(row, t, j).map_err(|fault| Axis::Row.fault(Table::Work, m, j, fault))?;
         }

@@ -52,7 +52,7 @@ impl<S> Presentation<S> {
         Ok(())
     }
 
-    // Makes `row` the relation after the first m.
+    // The same with the first n elements of a row, once all that is lent is long enough.
     fn accept<E: Ring>(
         &self,
         row: &[E],

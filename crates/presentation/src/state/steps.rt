@@ -19,6 +19,7 @@ fn is_short<E>(work: &[E], left: &Transform<'_, E>, right: &Transform<'_, E>) ->
     work.len() < TABLE || left.is_short() || right.is_short()
 }
 
+// W, P and Q stay apart below: a struct of them would have to say of every field that it still holds its loan.
 impl Open {
     // The same presentation, now that the rest is zero.
     fn finished(self) -> Finished
@@ -38,7 +39,7 @@ impl Open {
         }
     }
 
-    // Performs a line on the tables, whole or not at all.
+    // Performs a line on the tables, whole or not at all. Which one, is data, as `Change`.
     fn perform<E: Euclid>(
         &self,
         line: &Line<E>,
@@ -80,6 +81,7 @@ impl Open {
         let Some(line) = self.prescribe(&Grid { cells: work }) else {
             return Ok(Step::Done(self.finished()));
         };
+        // no `?`, which would lose the state
         match self.perform(&line, work, left, right) {
             Ok(()) => Ok(Step::Stepped(self.after(&line))),
             Err(fault) => Err((self, CallFault::from(fault))),
@@ -106,6 +108,7 @@ impl Open {
             let Some(line) = state.prescribe(&Grid { cells: work }) else {
                 return Ok(Run::Done(state.finished(), count));
             };
+            // no `?` here either
             match state.perform(&line, work, left, right) {
                 Ok(()) => state = state.after(&line),
                 Err(fault) => return Err((state, count, CallFault::from(fault))),
