@@ -36,7 +36,7 @@ module _ {E S : Type 0} (m : Model E S) where
   dot_zero laws n j row t z = sum_zero laws n (λ k h. ap (λ x. m.ring.mul x (member m t k j)) (z k h) ∙ zero_mul laws (member m t k j))
 
   pub unfit_sum : (laws : RangeLaws m) (n i k : ℕ) (row t line : List E) (d : E) (f : TableFault)
-      → k < n → (f ≡ fault_at Row Work i k Range) × (m.Fits (dot m n row t k) → ⊥) → Sums m n row t k line → UnfitSum m n row t i f
+      → k < n → (f ≡ fault_at Row Work i k Range) × ¬ (m.Fits (dot m n row t k)) → Sums m n row t k line → UnfitSum m n row t i f
   unfit_sum laws n i k row t line d f h (ef, no-fit) inv = record {
     at = k;
     inside = h;

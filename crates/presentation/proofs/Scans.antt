@@ -1,5 +1,5 @@
 -- Looking through the rest of a worktable by rows and then columns.
-use Rattle.std.proofs.Common.{◌-◌, MatchOption, ◌≡◌, ◌≢◌, ℕ, ◌+◌, ◌<◌, ◌≤◌, Bool, true, false, ◌⊎◌, List, length, get_or, Some, None, Decides, Option, sym, ap, ◌∙◌, subst, inl, inr, arith}
+use Rattle.std.proofs.Common.{◌-◌, MatchOption, ◌≡◌, ◌≢◌, ℕ, ◌+◌, ◌<◌, ◌≤◌, ◌⊎◌, List, length, get_or, Some, None, Option, sym, ap, ◌∙◌, subst, inl, inr, arith}
 use Rattle.std.proofs.lemmas.Bool.{cases_lt}
 use Rattle.std.proofs.lemmas.List.FromFn.{length-range_with_len, get_or-range_with_len}
 use Rattle.std.specs.List.{AllWithin, HoldsAt, range_with_len}
@@ -45,20 +45,13 @@ module _ {E S : Type 0} (m : Model E S) (s : Shape) (w : List E) where
   pub better : (laws : SizeLaws m) (i j size : ℕ) (least : Option (ℕ × (ℕ × ℕ))) → In s i j → size ≡ m.size (member m w i j) → Better size least → Pivotal m s w i j
   better laws i j size least inside e good = record { inside = inside; not_zero = λ z. omega (arith, positive size least good, e ∙ ap m.size z ∙ laws.size_zero) }
 
-  pub no_better : (laws : SizeLaws m) (i j size : ℕ) (least : Option (ℕ × (ℕ × ℕ))) → size ≡ m.size (member m w i j) → (Better size least → ⊥) → SoFar i j least → SoFar i (j + 1) least
+  pub no_better : (laws : SizeLaws m) (i j size : ℕ) (least : Option (ℕ × (ℕ × ℕ))) → size ≡ m.size (member m w i j) → ¬ (Better size least) → SoFar i j least → SoFar i (j + 1) least
   no_better laws i j size None e worse seen = seen_more s i j Zero seen (go (cases_lt 0 size))
     where
       go : (0 < size) ⊎ (size ≤ 0) → Zero i j
       go (inl l) = absurd (worse l)
       go (inr l) = laws.zero_size (member m w i j) (sym e ∙ omega (arith, l))
   no_better laws i j size (Some p) e worse found = found
-
-pub false_not_true : false ≡ true → ⊥
-false_not_true e = let z : ◌≡◌ {A = ℕ} 0 1 = cc in omega arith
-
--- a test that came out false, of what it decides
-pub refuted : {P : Type 0} (r : Bool) → Decides r P → r ≡ false → P → ⊥
-refuted r d e p = false_not_true (sym e ∙ d.1 p)
 
 -- what stands at the corner, as it was read, is not zero
 pub corner_not_zero : {E S : Type 0} (m : Model E S) (s : Shape) (w : List E) (x : m.Member) (a b c : ℕ) → shape a b c ≡ s → x ≡ member m w c c → Pivotal m s w s.c s.c → x ≢ m.ring.zero
@@ -78,7 +71,7 @@ module _ {E S : Type 0} (m : Model E S) (w : List E) (axis : Axis) (c len : ℕ)
       subst ZeroAt at (all (k - (c + 1)) 0 (omega arith) (omega arith))
 
   pub first_nonzero_found : (r : Option ℕ)
-      → MatchOption r (AllWithin ZeroAt After 0 (length After)) (λ x. (ZeroAt x → ⊥) × (i : ℕ) × (i < length After) × HoldsAt (λ y. y ≡ x) After i × AllWithin ZeroAt After 0 i)
+      → MatchOption r (AllWithin ZeroAt After 0 (length After)) (λ x. ¬ (ZeroAt x) × (i : ℕ) × (i < length After) × HoldsAt (λ y. y ≡ x) After i × AllWithin ZeroAt After 0 i)
       → MatchOption r (Zeros m axis c len w) (λ k. FirstNonzero m axis c len w k)
   first_nonzero_found None all = λ k a b. zero_before (length After) k (omega (arith, length-range_with_len (c + 1) (len - (c + 1)))) all a (omega (arith, length-range_with_len (c + 1) (len - (c + 1))))
   first_nonzero_found (Some x) (not_zero, i, l, at, before) =

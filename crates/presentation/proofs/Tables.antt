@@ -46,14 +46,14 @@ module _ {E : Type 0} where
   abbrev Exchanged : ℕ → ℕ → List E → List E → Type 0
   Exchanged p q t t' =
       ((d : E) → get_or t' p d ≡ get_or t q d) × ((d : E) → get_or t' q d ≡ get_or t p d)
-      × ((k : ℕ) (d : E) → (k ≡ p → ⊥) → (k ≡ q → ⊥) → get_or t' k d ≡ get_or t k d)
+      × ((k : ℕ) (d : E) → (k ≢ p) → (k ≢ q) → get_or t' k d ≡ get_or t k d)
 
   pub swapped_more : (axis : Axis) (a b k p q : ℕ) (old t t' : List E)
       → a < 32 → b < 32 → k < 32 → p ≡ place axis a k → q ≡ place axis b k → Exchanged p q t t'
       → Swapped axis a b k old t → Swapped axis a b (k + 1) old t'
   swapped_more axis a b k p q old t t' al bl kl ep eq x inv =
       let xp : Exchanged (place axis a k) (place axis b k) t t' = rw (← ep, ← eq) x in
-      let apart : (i j : ℕ) → i < 32 → j < k → (l : ℕ) → l < 32 → place axis i j ≡ place axis l k → ⊥ = λ i j il h l ll e. omega (arith, place_apart axis i l j k il ll (omega arith) kl e) in
+      let apart : (i j : ℕ) → i < 32 → j < k → (l : ℕ) → l < 32 → place axis i j ≢ place axis l k = λ i j il h l ll e. omega (arith, place_apart axis i l j k il ll (omega arith) kl e) in
       let off : (i : ℕ) → i < 32 → (d : E) → get_or t (place axis i k) d ≡ get_or old (place axis i k) d = λ i il d. inv.others (place axis i k) d (λ j h e. apart a j al h i il (sym e)) (λ j h e. apart b j bl h i il (sym e)) in
       record {
         first = λ j d h. below_more (λ j. get_or t' (place axis a j) d ≡ get_or old (place axis b j) d) k
@@ -84,7 +84,7 @@ module _ {E S : Type 0} (m : Model E S) where
   meant_set_same (y ∷ xs) zero x h = refl
   meant_set_same (y ∷ xs) (suc i) x h = meant_set_same xs i x (le_of_suc-le-suc h)
 
-  pub meant_set_other : (xs : List E) (i j : ℕ) (x : E) → (j ≡ i → ⊥) → meant m (set xs i x) j ≡ meant m xs j
+  pub meant_set_other : (xs : List E) (i j : ℕ) (x : E) → (j ≢ i) → meant m (set xs i x) j ≡ meant m xs j
   meant_set_other [] i j x h = refl
   meant_set_other (y ∷ xs) zero zero x h = absurd (h refl)
   meant_set_other (y ∷ xs) zero (suc j) x h = refl
@@ -95,7 +95,7 @@ module _ {E S : Type 0} (m : Model E S) where
   pub record Crossed (size k : ℕ) (old new : List E) : Type 0 where
     pub row : (j : ℕ) → j < k → meant m new (32 * size + j) ≡ m.ring.zero
     pub column : (j : ℕ) → j < k → meant m new (32 * j + size) ≡ m.ring.zero
-    pub others : (p : ℕ) (d : E) → ((j : ℕ) → j < k → p ≡ 32 * size + j → ⊥) → ((j : ℕ) → j < k → p ≡ 32 * j + size → ⊥) → get_or new p d ≡ get_or old p d
+    pub others : (p : ℕ) (d : E) → ((j : ℕ) → j < k → p ≢ 32 * size + j) → ((j : ℕ) → j < k → p ≢ 32 * j + size) → get_or new p d ≡ get_or old p d
 
   pub crossed_none : (size : ℕ) (old : List E) → Crossed size 0 old old
   crossed_none size old = record { row = λ j h. absurd (omega arith); column = λ j h. absurd (omega arith); others = λ p d h g. refl }
@@ -139,7 +139,7 @@ module _ {E S : Type 0} (m : Model E S) where
       diagonal : (i : ℕ) → i < k + 1 → meant m t' (32 * i + i) ≡ m.ring.one
       diagonal = below_more (λ i. meant m t' (32 * i + i) ≡ m.ring.one) k (λ i h. inner i i h h ∙ inv.diagonal i h) g.corner
 
-      off : (i j : ℕ) → i < k + 1 → j < k + 1 → (i ≡ j → ⊥) → meant m t' (32 * i + j) ≡ m.ring.zero
+      off : (i j : ℕ) → i < k + 1 → j < k + 1 → (i ≢ j) → meant m t' (32 * i + j) ≡ m.ring.zero
       off i j a b n = go (cases_lt i k) (cases_lt j k)
         where
           go : (i < k) ⊎ (k ≤ i) → (j < k) ⊎ (k ≤ j) → meant m t' (32 * i + j) ≡ m.ring.zero
@@ -148,5 +148,5 @@ module _ {E S : Type 0} (m : Model E S) where
           go (inr p) (inl q) = let e : i ≡ k = omega arith in rw e (g.row j q)
           go (inr p) (inr q) = absurd (n (omega arith))
 
-      others : (p : ℕ) (d : E) → ((i j : ℕ) → i < k + 1 → j < k + 1 → p ≡ 32 * i + j → ⊥) → get_or t' p d ≡ get_or old p d
+      others : (p : ℕ) (d : E) → ((i j : ℕ) → i < k + 1 → j < k + 1 → p ≢ 32 * i + j) → get_or t' p d ≡ get_or old p d
       others p d h = g.others p d (λ x l. h k x (omega arith) (omega arith)) (λ x l. h x k (omega arith) (omega arith)) ∙ inv.others p d (λ i j a b. h i j (omega arith) (omega arith))

@@ -22,7 +22,7 @@ module _ {E S : Type 0} (m : Model E S) where
   -- an element's answer with its fault placed: the member that it means, or the fault `f` of one that does not fit
   abbrev pub NewAt : TableFault → m.Member → Result E TableFault → Type 0
   NewAt f a (Ok z) = m.mean z ≡ a
-  NewAt f a (Err e) = (e ≡ f) × (m.Fits a → ⊥)
+  NewAt f a (Err e) = (e ≡ f) × ¬ (m.Fits a)
 
   pub new_at : (at : ElementFault → TableFault) (a : m.Member) (r : Result E ElementFault) (r' : Result E TableFault)
       → NewEntry m a r → MatchResult r (λ x. r' ≡ Ok x) (λ e. IsErrAnd r' (λ f. f ≡ at e)) → NewAt (at Range) a r'
@@ -30,7 +30,7 @@ module _ {E S : Type 0} (m : Model E S) where
   new_at at a (Err f) r' h e = let p = err_from_is_err_and r' e in rw (p.1, p.2, h.0) (refl, h.1)
 
   pub unfit : (u : Update E) (table : Table) (axis : Axis) (t : List E) (len k : ℕ) (f : TableFault)
-      → k < len → (f ≡ fault_at axis table u.to k Range) × (m.Fits (new_entry m u axis t k) → ⊥) → FitUpdate m u axis k t → UnfitUpdate m u table axis len t f
+      → k < len → (f ≡ fault_at axis table u.to k Range) × ¬ (m.Fits (new_entry m u axis t k)) → FitUpdate m u axis k t → UnfitUpdate m u table axis len t f
   unfit u table axis t len k f kl no-fit inv = record { at = k; inside = kl; is = no-fit.0; here = no-fit.1; before = inv }
 
   -- the entries numbered k are still as they were

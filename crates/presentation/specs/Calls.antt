@@ -79,7 +79,7 @@ module _ {E S : Type 0} (m : Model E S) where
 
   abbrev pub Accepting : ℕ → ℕ → List E → List E → LentAdd E → LentAdd E → Result (Unit {0}) CallFault → Type 0
   Accepting k n row right old new (Ok x) = LongAdd n row right old × (k < 32) × Accepted k n row right old new
-  Accepting k n row right old new (Err Short) = (new ≡ old) × (LongAdd n row right old → ⊥)
+  Accepting k n row right old new (Err Short) = (new ≡ old) × ¬ (LongAdd n row right old)
   Accepting k n row right old new (Err Full) = (new ≡ old) × LongAdd n row right old × (k ≡ 32)
   Accepting k n row right old new (Err (InTable f)) = (new ≡ old) × LongAdd n row right old × (k < 32) × UnfitSum m n row right k f
   Accepting k n row right old new (Err Generators) = ⊥
@@ -116,7 +116,7 @@ module _ {E S : Type 0} (m : Model E S) where
 
   -- why a step is refused: a short table, or the first entry of a line's operation that does not fit
   abbrev pub Refused : Shape → LentStep E → CallFault → Type 0
-  Refused s t Short = LongStep t → ⊥
+  Refused s t Short = ¬ (LongStep t)
   Refused s t (InTable f) = LongStep t × ((line : Line E) × Placed s line × UnfitOn (operation line s.c) s t f)
   Refused s t Generators = ⊥
   Refused s t Full = ⊥
@@ -132,7 +132,7 @@ module _ {E S : Type 0} (m : Model E S) where
     more : (k : ℕ) (u v : Shape) (x y : LentStep E) → Reach s t k u x → Next u x v y → Reach s t (k + 1) v y
 
   abbrev pub Stopped : ℕ → Shape → LentStep E → ℕ → Shape → LentStep E → CallFault → Type 0
-  Stopped budget s t k s' t' Short = (k ≡ 0) × (s' ≡ s) × (t' ≡ t) × (LongStep t → ⊥)
+  Stopped budget s t k s' t' Short = (k ≡ 0) × (s' ≡ s) × (t' ≡ t) × ¬ (LongStep t)
   Stopped budget s t k s' t' (InTable f) = LongStep t × (k < budget) × Reach s t k s' t' × Refused s' t' (InTable f)
   Stopped budget s t k s' t' Generators = ⊥
   Stopped budget s t k s' t' Full = ⊥

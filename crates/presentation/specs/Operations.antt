@@ -60,7 +60,7 @@ module _ {E S : Type 0} (m : Model E S) where
 
   abbrev pub NewEntry : m.Member → Result E ElementFault → Type 0
   NewEntry a (Ok z) = m.mean z ≡ a
-  NewEntry a (Err f) = (f ≡ Range) × (m.Fits a → ⊥)
+  NewEntry a (Err f) = (f ≡ Range) × ¬ (m.Fits a)
 
   abbrev pub new_entry : Update E → Axis → List E → ℕ → m.Member
   new_entry u axis t k = changed u.change (meant m t (place axis u.to k)) (meant m t (place axis u.from k))
@@ -72,7 +72,7 @@ module _ {E S : Type 0} (m : Model E S) where
     pub at : ℕ
     pub inside : at < len
     pub is : f ≡ fault_at axis table u.to at Range
-    pub here : m.Fits (new_entry u axis t at) → ⊥
+    pub here : ¬ (m.Fits (new_entry u axis t at))
     pub before : FitUpdate u axis at t
 
   abbrev pub Fitting : Update E → Table → Axis → ℕ → List E → Result (Unit {0}) TableFault → Type 0

@@ -34,7 +34,7 @@ module _ {E S : Type 0} (m : Model E S) (n : ℕ) where
     pub at : ℕ
     pub inside : at < n
     pub is : f ≡ fault_at Row Work i at Range
-    pub here : m.Fits (dot row t at) → ⊥
+    pub here : ¬ (m.Fits (dot row t at))
     pub before : (j : ℕ) → j < at → m.Fits (dot row t j)
 
   abbrev pub Putting : List E → List E → ℕ → List E → List E → Result (Unit {0}) TableFault → Type 0

@@ -14,7 +14,7 @@
 --   operation      the elementary operation that a line stands for, on rows or on columns
 --   positions      the positions of a line are after the corner
 --   Placed         the corner lies in the table, and the positions of a line after it
-use Rattle.std.specs.Prelude.{◌≡◌, ℕ, ◌+◌, ◌*◌, ◌<◌, ◌≤◌, ◌⊎◌, List, Some, None, Option}
+use Rattle.std.specs.Prelude.{◌≡◌, ◌≢◌, ℕ, ◌+◌, ◌*◌, ◌<◌, ◌≤◌, ◌⊎◌, List, Some, None, Option}
 use Rattle.kinds.specs.Model.{Model}
 use Rattle.presentation.specs.declared.table.Axis.{Axis}
 use Rattle.presentation.specs.declared.table.Axis.TheVariants.{Row, Column}
@@ -48,7 +48,7 @@ module _ {E S : Type 0} (m : Model E S) where
 
   pub record Pivotal (s : Shape) (w : List E) (i j : ℕ) : Type 0 where
     pub inside : In s i j
-    pub not_zero : member w i j ≡ m.ring.zero → ⊥
+    pub not_zero : member w i j ≢ m.ring.zero
 
   abbrev pub Zeros : Axis → ℕ → ℕ → List E → Type 0
   Zeros axis c len w = (k : ℕ) → c < k → k < len → meant m w (place axis c k) ≡ m.ring.zero
@@ -57,7 +57,7 @@ module _ {E S : Type 0} (m : Model E S) where
     pub after : c < k
     pub below : k < len
     pub before : Zeros axis c k w
-    pub not_zero : meant m w (place axis c k) ≡ m.ring.zero → ⊥
+    pub not_zero : meant m w (place axis c k) ≢ m.ring.zero
 
   abbrev pub DividedBy : m.Member → m.Member → Type 0
   DividedBy b a = m.remainder a b ≡ m.ring.zero
@@ -67,7 +67,7 @@ module _ {E S : Type 0} (m : Model E S) where
 
   pub record FirstUndivided (s : Shape) (w : List E) (b : m.Member) (i j : ℕ) : Type 0 where
     pub inside : In s i j
-    pub here : DividedBy b (member w i j) → ⊥
+    pub here : ¬ (DividedBy b (member w i j))
     pub before : (a c : ℕ) → In s a c → Earlier i j a c → DividedBy b (member w a c)
 
 abbrev pub operation : {E : Type 0} → Line E → ℕ → Option (Axis × Operation E)

@@ -1,6 +1,7 @@
 use Rattle.std.proofs.Common.{subst, arith}
 use Rattle.presentation.specs.Rests.{DividedBy, member}
-use Rattle.presentation.proofs.Scans.{numbers, within, seen_more, refuted}
+use Rattle.presentation.proofs.Scans.{numbers, within, seen_more}
+use Rattle.std.proofs.lemmas.Bool.Decides.{not_from_Decides}
 use Rattle.presentation.proofs.prescribe.Open.first_undivided.Goals as goal
 
 pub loop-j-preserved : goal.loop-j-preserved
@@ -16,6 +17,6 @@ returns-then-not-divides g c =
     let is = numbers c.self.view_is in
     record {
       inside = within c.args.self.now c.loop-i.i c.loop-j.j (omega arith) (omega arith) (omega arith) (omega arith);
-      here = subst (λ x. DividedBy m b x → ⊥) c.entry.ensures (refuted c.divides.result c.divides.ensures c.if-not-divides.true);
+      here = subst (λ x. ¬ (DividedBy m b x)) c.entry.ensures (not_from_Decides c.divides.result c.divides.ensures c.if-not-divides.true);
       before = c.loop-j.invariant;
     }

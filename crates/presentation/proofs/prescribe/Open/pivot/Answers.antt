@@ -1,5 +1,6 @@
 use Rattle.std.proofs.Common.{ap, ◌∙◌, arith}
-use Rattle.presentation.proofs.Scans.{numbers, within, better, no_better, refuted}
+use Rattle.presentation.proofs.Scans.{numbers, within, better, no_better}
+use Rattle.std.proofs.lemmas.Bool.Decides.{not_from_Decides}
 use Rattle.presentation.proofs.prescribe.Open.pivot.Goals as goal
 
 pub loop-j-preserved : goal.loop-j-preserved
@@ -17,5 +18,5 @@ loop-j-preserved g c =
           rw v.least-is
           (better m s c.args.w.now g.met.E.Ring.size i j size least (within s i j (omega arith) (omega arith) (omega arith) (omega arith)) size_is (c.is_better.ensures.0 v.if-is_better.true))
       | goal.else-is_better v ↦
-          rw v.least-is (no_better m s c.args.w.now g.met.E.Ring.size i j size least size_is (refuted c.is_better.result c.is_better.ensures v.if-is_better.false) c.loop-j.invariant)
+          rw v.least-is (no_better m s c.args.w.now g.met.E.Ring.size i j size least size_is (not_from_Decides c.is_better.result c.is_better.ensures v.if-is_better.false) c.loop-j.invariant)
     ]
