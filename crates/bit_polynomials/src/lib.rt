@@ -28,14 +28,15 @@ pub struct BitPolynomial {
 }
 
 impl BitPolynomial {
-    // The bits of the polynomial that the element means.
+    // The bits of the polynomial that the element means. Its name is that of the other kinds' reading.
     pub fn get(&self) -> u32
         ensures { binary result ≡ meaning self.now }
     {
         self.bits
     }
 
-    // The element means the polynomial of these bits, or Range is refused.
+    // The element means the polynomial of these bits, or Range is refused. Two lines over the kind's own word: a
+    // shared one would be no shorter.
     pub fn set(&mut self, bits: u64) -> Result<(), ElementFault>
         ensures { Becomes bit_polynomials (binary bits) self.old self.new result }
     {

@@ -34,19 +34,15 @@ impl GaussianInteger {
     fn fitting(&self) -> FittingParts
         ensures { value result.parts ≡ meaning self.now }
     {
-        let fits = -LIMIT..=LIMIT;
-        let parts = if fits.contains(&self.re) && fits.contains(&self.im) {
-            Parts {
-                re: self.re as i64,
-                im: self.im as i64,
-            }
-        } else {
-            Parts { re: 0, im: 0 }
+        let stored = Parts {
+            re: self.re as i64,
+            im: self.im as i64,
         };
-        FittingParts { parts }
+        let zero = Parts { re: 0, im: 0 };
+        stored.fitting().unwrap_or(FittingParts { parts: zero })
     }
 
-    // The Gaussian integer that the element means.
+    // The Gaussian integer that the element means. A reading and no conversion: parts out of range read as zero.
     pub fn get(&self) -> Parts
         ensures value { value result ≡ meaning self.now }
         ensures bound { Fits (value result) }
@@ -54,7 +50,7 @@ impl GaussianInteger {
         self.fitting().parts
     }
 
-    // The element means z, or Range is refused.
+    // The element means z, or Range is refused. Two lines over the kind's own word: a shared one would be no shorter.
     pub fn set(&mut self, z: Parts) -> Result<(), ElementFault>
         ensures { Becomes gaussians (value z) self.old self.new result }
     {
@@ -82,13 +78,8 @@ impl TryFrom<Parts> for GaussianInteger {
     ghost try_from_gives = { λ z r. Makes gaussians (value z) r × IfOk r (λ x. gauss x.re x.im ≡ value z) };
 
     fn try_from(parts: Parts) -> Result<GaussianInteger, ElementFault> {
-        let limit = LIMIT as i64;
-        let fits = -limit..=limit;
-        if fits.contains(&parts.re) && fits.contains(&parts.im) {
-            Ok(GaussianInteger::from(FittingParts { parts }))
-        } else {
-            Err(ElementFault::Range)
-        }
+        let fitting = parts.fitting().ok_or(ElementFault::Range)?;
+        Ok(GaussianInteger::from(fitting))
     }
 }
 

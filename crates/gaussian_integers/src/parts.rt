@@ -1,9 +1,11 @@
 // Gaussian integers in 64-bit words.
-ghost use Rattle.std.specs.Prelude.{◌≡◌, ◌≢◌, ◌≤◌, pos, ◌*ℤ◌, ◌<ℤ◌, unsigned_abs};
+ghost use Rattle.std.specs.Prelude.{◌≡◌, ◌≢◌, ◌≤◌, pos, ◌*ℤ◌, ◌<ℤ◌, unsigned_abs, MatchOption};
 ghost use Rattle.algebra.specs.Ring.{sub};
 ghost use Rattle.gaussian_integers.specs.Gaussian.{gaussian, conjugate, norm, nearest, rounded, quotient, remainder, unit, Within};
 ghost use Rattle.gaussian_integers.specs.Meaning.{Fits};
 ghost use Rattle.gaussian_integers.specs.Parts.{value};
+
+use crate::LIMIT;
 
 // The real and the imaginary part of a Gaussian integer.
 #[derive(Clone, Copy, PartialEq, Eq, Debug)]
@@ -41,6 +43,19 @@ fn nearest(x: i64, n: i64) -> i64
 }
 
 impl Parts {
+    // The same parts, if they fit an element.
+    pub(crate) fn fitting(self) -> Option<FittingParts>
+        ensures { MatchOption result (¬ (Fits (value self))) (λ z. z.parts ≡ self) }
+    {
+        let limit = LIMIT as i64;
+        let fits = -limit..=limit;
+        if fits.contains(&self.re) && fits.contains(&self.im) {
+            Some(FittingParts { parts: self })
+        } else {
+            None
+        }
+    }
+
     // The sum of two with parts below 2^62.
     pub(crate) fn plus(self, b: Parts) -> Parts
         requires left { Within 4611686018427387903 (value self) }

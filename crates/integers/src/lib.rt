@@ -23,7 +23,7 @@ pub struct Integer {
 }
 
 impl Integer {
-    // The integer that the element means.
+    // The integer that the element means. A reading and no conversion: a value out of range reads as zero.
     pub fn get(&self) -> i64
         ensures value { result ≡ meaning self.now }
         ensures bound { unsigned_abs result ≤ 536870911 }
@@ -35,7 +35,7 @@ impl Integer {
         }
     }
 
-    // The element means z, or Range is refused.
+    // The element means z, or Range is refused. Two lines over the kind's own word: a shared one would be no shorter.
     pub fn set(&mut self, z: i64) -> Result<(), ElementFault>
         ensures { Becomes integers z self.old self.new result }
     {

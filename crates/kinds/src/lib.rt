@@ -99,7 +99,7 @@ pub trait Sums<E: Ring<Sum = Self>>: Copy {
     fn take(&mut self, a: &E, b: &E) -> Result<(), ElementFault>
         ensures { Takes E.Ring.model (product E.Ring.model a.now b.now) self.old self.new result };
 
-    // Whether both mean the same member.
+    // Whether both mean the same member. No derived `==`: sums that took different counts may mean one member.
     fn equals(&self, other: &Self) -> bool
         ensures { IsTrue result ↔ (E.Ring.model.total self.now ≡ E.Ring.model.total other.now) };
 
