@@ -5,7 +5,8 @@ use kinds::ElementFault;
 use presentation::{CallFault, Run, Step, Table, TableFault, Transform, open};
 use std::test::Fail;
 
-// What becomes of a matrix: the steps taken and the diagonal of the worktable, or why not.
+// What becomes of a matrix: the steps taken and the diagonal of the worktable, or why not. One enum of four, so that a
+// test compares one value.
 #[derive(Clone, Copy, PartialEq, Eq, Debug)]
 enum Outcome {
     Done(u32, [i32; 4]),
@@ -16,17 +17,11 @@ enum Outcome {
 
 // A row of at most five entries.
 fn row(r: &[i32; 5]) -> [Integer; 5] {
-    [
-        integer(r[0]),
-        integer(r[1]),
-        integer(r[2]),
-        integer(r[3]),
-        integer(r[4]),
-    ]
+    r.map(integer)
 }
 
 // The outcome of rows of n entries under a budget. Six arrays and no struct of them: the checker does not cover an element
-// of an array in a struct of which another field is lent.
+// of an array in a struct of which another field is lent. Arrays and no `Vec`, so that want of memory is no outcome.
 fn reduced(n: usize, rows: &[[i32; 5]], budget: u32) -> Outcome {
     let mut a = [integer(0); 1024];
     let mut w = [integer(0); 1024];

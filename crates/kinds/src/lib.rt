@@ -87,8 +87,8 @@ pub trait Ring: Copy {
     ghost normal: { NormalLaws model };
 }
 
-// A sum of at most 32 products of elements, exact. Each kind has its own: the bound that keeps the next addition inside its
-// word is the kind's, so a shared `take` would need a public method with a `requires`.
+// A sum of at most 32 products of elements, exact. Each kind has its own: the bound that keeps the next addition inside
+// its word is the kind's, so a shared `take` would need a public method with a `requires`.
 pub trait Sums<E: Ring<Sum = Self>>: Copy {
     // A sum of no products.
     fn new() -> Self
