@@ -63,7 +63,7 @@ impl Tables {
         })
     }
 
-    // Presents the module of the m relations of a matrix, and reduces it.
+    // Presents the module of the m relations of a matrix, and reduces it. m and n are as `read` answers them.
     pub(crate) fn reduce(&mut self, m: usize, n: usize, rows: &[Integer]) -> Result<(), Refusal>
         requires long { 1024 ≤ length rows.now }
         requires relations { m ≤ 32 }

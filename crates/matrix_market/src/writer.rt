@@ -59,7 +59,7 @@ fn put_entries(out: &mut [u8], at: usize, sizes: Sizes, table: &[Integer]) -> us
 }
 
 // Writes the m by n integers of `table`, entry (i, j) from place 32·i + j, and answers the length,
-// as std's `Read::read` does of a lent buffer. A refusal writes nothing.
+// as std's `Read::read` does of a lent buffer. A refusal writes nothing. m and n and no `Sizes`: any can be asked for.
 pub fn write(m: usize, n: usize, table: &[Integer], out: &mut [u8]) -> Result<usize, WriteFault>
     ensures text { Wrote m n table.now out.old result out.new }
     ensures bound { IfOk result (λ len. len ≤ 12288) }

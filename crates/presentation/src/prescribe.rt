@@ -11,7 +11,8 @@ use crate::state::Open;
 use crate::table::Axis;
 use kinds::Euclid;
 
-// Lines 2 to 8 of the step, with their positions and multipliers.
+// Lines 2 to 8 of the step, with their positions and multipliers. That these lie in the rest is a clause, `Placed`: the
+// rest is known by the presentation and not by the line.
 #[derive(Drop)]
 pub enum Line<E> {
     // 2: the pivot's row and row c are swapped

@@ -12,7 +12,8 @@ use kinds::{ElementFault, Ring};
 // each method would have to say too that it still holds that slice.
 pub const TABLE: usize = 1024;
 
-// A transform that is lent with its inverse: P and P*, or Q and Q*.
+// A transform that is lent with its inverse: P and P*, or Q and Q*. Each call that changes one says `Same` of it in a
+// clause: no invariant can, for it speaks of before and after.
 #[derive(Drop)]
 pub struct Transform<'a, E> {
     pub matrix: &'a mut [E],

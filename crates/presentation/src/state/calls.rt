@@ -28,6 +28,7 @@ pub fn open<E: Ring>(n: usize, right: &mut Transform<'_, E>) -> Result<Open, Cal
     Ok(Presentation::new(0, n, 0))
 }
 
+// A, W, P and Q stay apart, as in `steps`.
 impl<S> Presentation<S> {
     // Makes a row of n elements the relation after the first m.
     fn accept_row<E: Ring>(
