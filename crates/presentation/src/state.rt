@@ -53,7 +53,7 @@ pub type Open = Presentation<Unreduced>;
 // The same, reduced.
 pub type Finished = Presentation<Reduced>;
 
-// What a step answers.
+// What a step answers. No `Result`, as in a run: neither is a failure.
 #[derive(Drop)]
 pub enum Step {
     Stepped(Open),
