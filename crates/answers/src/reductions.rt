@@ -5,14 +5,13 @@ use kinds::ElementFault;
 use presentation::{CallFault, Run, Step, Table, TableFault, Transform, open};
 use std::test::Fail;
 
-// What becomes of a matrix: the steps taken and the diagonal of the worktable, or why not. One enum of four, so that a
+// What becomes of a matrix: the steps taken and the diagonal of the worktable, or why not. One enum of three, so that a
 // test compares one value.
 #[derive(Clone, Copy, PartialEq, Eq, Debug)]
 enum Outcome {
     Done(u32, [i32; 4]),
     Spent(u32),
     Refused(u32, CallFault),
-    NotAdded(CallFault),
 }
 
 // A row of at most five entries.
@@ -22,7 +21,7 @@ fn row(r: &[i32; 5]) -> [Integer; 5] {
 
 // The outcome of rows of n entries under a budget. Six arrays and no struct of them: the checker does not cover an element
 // of an array in a struct of which another field is lent. Arrays and no `Vec`, so that want of memory is no outcome.
-fn reduced(n: usize, rows: &[[i32; 5]], budget: u32) -> Outcome {
+fn reduced(n: usize, rows: &[[i32; 5]], budget: u32) -> Result<Outcome, CallFault> {
     let mut a = [integer(0); 1024];
     let mut w = [integer(0); 1024];
     let mut p = [integer(0); 1024];
@@ -37,36 +36,38 @@ fn reduced(n: usize, rows: &[[i32; 5]], budget: u32) -> Outcome {
         matrix: &mut q,
         inverse: &mut q_inverse,
     };
-    let mut state = match open(n, &mut right) {
-        Ok(state) => state,
-        Err(fault) => return Outcome::NotAdded(fault),
-    };
+    let mut state = open(n, &mut right)?;
     for r in rows {
-        state = match state.add(&row(r), &mut a, &mut w, &mut left, right.matrix) {
-            Ok(state) => state,
-            Err((_, fault)) => return Outcome::NotAdded(fault),
-        };
+        state = state
+            .add(&row(r), &mut a, &mut w, &mut left, right.matrix)
+            .map_err(|(_, fault)| fault)?;
     }
-    match state.run(budget, &mut w, &mut left, &mut right) {
+    Ok(match state.run(budget, &mut w, &mut left, &mut right) {
         Ok(Run::Done(_, count)) => Outcome::Done(
             count,
             [w[0].value, w[33].value, w[66].value, w[99].value],
         ),
         Ok(Run::Spent(_, count)) => Outcome::Spent(count),
         Err((_, count, fault)) => Outcome::Refused(count, fault),
-    }
+    })
 }
 
 #[test]
 fn smith_forms(rt: HostRuntime) {
     let cyclic = [[1, 1, -1, 0, 0], [-1, 1, 1, 0, 0], [1, -1, 1, 0, 0]];
-    assert_eq!(rt; reduced(3, &cyclic, 100), Outcome::Done(8, [1, 2, 2, 0]));
+    assert_eq!(rt;
+        reduced(3, &cyclic, 100),
+        Ok(Outcome::Done(8, [1, 2, 2, 0]))
+    );
     let coprime = [[2, 0, 0, 0, 0], [0, 3, 0, 0, 0]];
-    assert_eq!(rt; reduced(2, &coprime, 100), Outcome::Done(8, [1, 6, 0, 0]));
+    assert_eq!(rt;
+        reduced(2, &coprime, 100),
+        Ok(Outcome::Done(8, [1, 6, 0, 0]))
+    );
     let large = [[1, 1, 0, 0, 0], [-268435455, 268435455, 0, 0, 0]];
     assert_eq!(rt;
         reduced(2, &large, 100),
-        Outcome::Done(4, [1, 536870910, 0, 0])
+        Ok(Outcome::Done(4, [1, 536870910, 0, 0]))
     );
     let knot = [
         [2, -1, -1, 0, 0],
@@ -74,7 +75,10 @@ fn smith_forms(rt: HostRuntime) {
         [-1, -1, 3, -1, 0],
         [0, -2, -1, 3, 0],
     ];
-    assert_eq!(rt; reduced(4, &knot, 100), Outcome::Done(20, [1, 1, 13, 0]));
+    assert_eq!(rt;
+        reduced(4, &knot, 100),
+        Ok(Outcome::Done(20, [1, 1, 13, 0]))
+    );
 }
 
 #[test]
@@ -86,21 +90,24 @@ fn diagonals_stay(rt: HostRuntime) {
         [0, 0, 0, 0, 0],
         [0, 0, 0, 0, 0],
     ];
-    assert_eq!(rt; reduced(4, &diagonal, 100), Outcome::Done(3, [1, 2, 12, 0]));
-    assert_eq!(rt; reduced(4, &[], 100), Outcome::Done(0, [0, 0, 0, 0]));
+    assert_eq!(rt;
+        reduced(4, &diagonal, 100),
+        Ok(Outcome::Done(3, [1, 2, 12, 0]))
+    );
+    assert_eq!(rt; reduced(4, &[], 100), Ok(Outcome::Done(0, [0, 0, 0, 0])));
     assert_eq!(rt;
         reduced(2, &[[0, 0, 0, 0, 0]], 0),
-        Outcome::Done(0, [0, 0, 0, 0])
+        Ok(Outcome::Done(0, [0, 0, 0, 0]))
     );
 }
 
 #[test]
 fn budgets(rt: HostRuntime) {
     let coprime = [[2, 0, 0, 0, 0], [0, 3, 0, 0, 0]];
-    assert_eq!(rt; reduced(2, &coprime, 8), Outcome::Done(8, [1, 6, 0, 0]));
-    assert_eq!(rt; reduced(2, &coprime, 7), Outcome::Spent(7));
-    assert_eq!(rt; reduced(2, &coprime, 0), Outcome::Spent(0));
-    assert_eq!(rt; reduced(2, &[], 0), Outcome::Done(0, [0, 0, 0, 0]));
+    assert_eq!(rt; reduced(2, &coprime, 8), Ok(Outcome::Done(8, [1, 6, 0, 0])));
+    assert_eq!(rt; reduced(2, &coprime, 7), Ok(Outcome::Spent(7)));
+    assert_eq!(rt; reduced(2, &coprime, 0), Ok(Outcome::Spent(0)));
+    assert_eq!(rt; reduced(2, &[], 0), Ok(Outcome::Done(0, [0, 0, 0, 0])));
 }
 
 #[test]
@@ -114,26 +121,17 @@ fn refusals(rt: HostRuntime) {
     };
     assert_eq!(rt;
         reduced(2, &past, 100),
-        Outcome::Refused(0, CallFault::InTable(fault))
+        Ok(Outcome::Refused(0, CallFault::InTable(fault)))
     );
-    assert_eq!(rt;
-        reduced(0, &[], 100),
-        Outcome::NotAdded(CallFault::Generators)
-    );
-    assert_eq!(rt;
-        reduced(33, &[], 100),
-        Outcome::NotAdded(CallFault::Generators)
-    );
-    assert_eq!(rt; reduced(6, &past, 100), Outcome::NotAdded(CallFault::Short));
+    assert_eq!(rt; reduced(0, &[], 100), Err(CallFault::Generators));
+    assert_eq!(rt; reduced(33, &[], 100), Err(CallFault::Generators));
+    assert_eq!(rt; reduced(6, &past, 100), Err(CallFault::Short));
     let zero = [0, 0, 0, 0, 0];
     assert_eq!(rt;
         reduced(5, &[zero; 32], 100),
-        Outcome::Done(0, [0, 0, 0, 0])
+        Ok(Outcome::Done(0, [0, 0, 0, 0]))
     );
-    assert_eq!(rt;
-        reduced(5, &[zero; 33], 100),
-        Outcome::NotAdded(CallFault::Full)
-    );
+    assert_eq!(rt; reduced(5, &[zero; 33], 100), Err(CallFault::Full));
 }
 
 #[test]

@@ -101,8 +101,7 @@ impl Ring for BitPolynomial {
 
     // A polynomial is its own opposite, so the difference is the sum.
     fn sub_mul(&mut self, q: &BitPolynomial, y: &BitPolynomial) -> Result<(), ElementFault> {
-        let difference = add(self.get() as u64, multiply(q.get(), y.get()));
-        self.set(difference)
+        self.add_mul(q, y)
     }
 
     #[tactic(auto, using(crate::specs::BinaryLemmas::binary_once))]

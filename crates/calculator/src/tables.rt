@@ -89,10 +89,12 @@ impl Tables {
             &mut left,
             right.matrix,
         )?;
-        match state.run(BUDGET, &mut self.work, &mut left, &mut right) {
-            Ok(Run::Done(_, _)) => Ok(()),
-            Ok(Run::Spent(_, _)) => Err(Refusal::Spent),
-            Err((_, _, fault)) => Err(Refusal::Call(fault)),
+        let run = state
+            .run(BUDGET, &mut self.work, &mut left, &mut right)
+            .map_err(|(_, _, fault)| fault)?;
+        match run {
+            Run::Done(_, _) => Ok(()),
+            Run::Spent(_, _) => Err(Refusal::Spent),
         }
     }
 

@@ -45,6 +45,7 @@ pub(crate) fn put_product<E: Ring>(
 {
     let mut zero = t.entry(Axis::Row, 0, 0);
     zero.set_zero();
+    // 32 and no `Vec`: the library has no heap
     let mut line = [zero; 32];
     if !is_zero_row(row) {
         // j is the column, which the fault names and the place of the new entry goes by

@@ -66,8 +66,8 @@ pub enum Axis {
     Column,
 }
 
-// Numbers of rows and columns and their lengths stay numbers under clauses: `perform` needs three different pairs of an
-// axis and a length, `place` and `fault` an axis alone.
+// Numbers of rows and columns, below 32, and their lengths, of at most 32, stay numbers under clauses: `perform` needs three
+// different pairs of an axis and a length, `place` no length at all.
 impl Axis {
     // The place of entry k of row or column i.
     pub(crate) fn place(self, i: usize, k: usize) -> usize
