@@ -100,6 +100,7 @@ impl Ring for BitPolynomial {
     }
 
     // A polynomial is its own opposite, so the difference is the sum.
+    #[tactic(auto, using(crate::specs::BinaryLemmas::minus_itself))]
     fn sub_mul(&mut self, q: &BitPolynomial, y: &BitPolynomial) -> Result<(), ElementFault> {
         self.add_mul(q, y)
     }
