@@ -227,7 +227,8 @@ fn normalises(rt: HostRuntime) -> Result<(), Fail> {
     Ok(())
 }
 
-// The 33rd product is refused, and the sum is left.
+// The 33rd product is refused, and the sum is left. Loops like this one and those below test the sums of each kind, over
+// its own numbers and readings: one for all would need a crate of its own, and be no shorter.
 #[test]
 fn sums_take_32(rt: HostRuntime) -> Result<(), Fail> {
     for (a, b, total) in [

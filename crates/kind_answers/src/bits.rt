@@ -164,7 +164,9 @@ fn normalises(rt: HostRuntime) {
     }
 }
 
-// The largest sum has each power up to the 62nd. The 33rd product is refused, and the sum is left.
+// The largest sum has each power up to the 62nd. The 33rd product is refused, and the sum is left. Loops like this one and
+// those below test the sums of each kind, over its own numbers and readings: one for all would need a crate of its own,
+// and be no shorter.
 #[test]
 fn sums_take_32(rt: HostRuntime) -> Result<(), Fail> {
     for (a, b, c, d, total) in [
