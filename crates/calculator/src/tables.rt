@@ -2,6 +2,7 @@
 ghost use Rattle.std.specs.Prelude.{◌≡◌, ◌≤◌, length, IfOk, vec_len};
 ghost use Rattle.presentation.specs.Shapes.{shape};
 ghost use Rattle.calculator.specs.Answers.{zeros, Afterwards};
+ghost use Rattle.calculator.specs.Blank.{Blank};
 
 use crate::{BUDGET, Refusal};
 use integers::Integer;
@@ -52,7 +53,9 @@ fn add_rows(
 
 impl Tables {
     // Tables of zeros.
-    pub(crate) fn new(heap: Global) -> Result<Tables, AllocError> {
+    pub(crate) fn new(heap: Global) -> Result<Tables, AllocError>
+        ensures { IfOk result Blank }
+    {
         Ok(Tables {
             relations: table(heap)?,
             work: table(heap)?,

@@ -1,4 +1,4 @@
--- The bounds of a state after a line, and what a refused run kept.
+-- Lent tables and transforms, from one call to the next: they stay where they are, and as long.
 use Rattle.std.proofs.Common.{◌≡◌, List, length, refl, ◌∙◌, arith}
 use Rattle.presentation.specs.Calls.{LongStep}
 use Rattle.presentation.specs.declared.table.Transform.{Transform}

@@ -2,7 +2,7 @@
 ghost use Rattle.std.specs.Prelude.{◌≡◌, ◌<◌, ◌≤◌, MatchOption, IsTrue, ◌↔◌};
 ghost use Rattle.presentation.specs.declared.operation.Operation.TheVariants.{Combine};
 ghost use Rattle.presentation.specs.Rests as rests;
-ghost use Rattle.presentation.specs.Rests.{RestZero, Pivotal, Zeros, FirstNonzero, Better, AllDivided, FirstUndivided, Placed};
+ghost use Rattle.presentation.specs.Rests.{member, RestZero, Pivotal, Zeros, FirstNonzero, Better, AllDivided, FirstUndivided, Placed};
 
 use crate::grid::Grid;
 use crate::operation::{Change, Operation, Update};
@@ -79,6 +79,7 @@ impl Open {
     // The pivot, where it stands at the corner.
     fn corner<E: Euclid>(&self, w: &Grid<'_, E>) -> Pivot<E>
         requires { Pivotal E.Ring.model self.now w.now self.now.c self.now.c }
+        ensures { E.Ring.model.mean result.element ≡ member E.Ring.model w.now self.now.c self.now.c }
     {
         Pivot {
             element: w.entry(Axis::Row, self.c, self.c),

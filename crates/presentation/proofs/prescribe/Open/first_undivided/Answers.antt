@@ -1,7 +1,7 @@
 use Rattle.std.proofs.Common.{subst, arith}
+use Rattle.std.proofs.lemmas.Bool.Decides.{not_from_Decides}
 use Rattle.presentation.specs.Rests.{DividedBy, member}
 use Rattle.presentation.proofs.Scans.{numbers, within, seen_more}
-use Rattle.std.proofs.lemmas.Bool.Decides.{not_from_Decides}
 use Rattle.presentation.proofs.prescribe.Open.first_undivided.Goals as goal
 
 pub loop-j-preserved : goal.loop-j-preserved

@@ -1,6 +1,6 @@
 use Rattle.std.proofs.Common.{ap, ◌∙◌, arith}
-use Rattle.presentation.proofs.Scans.{numbers, within, better, no_better}
 use Rattle.std.proofs.lemmas.Bool.Decides.{not_from_Decides}
+use Rattle.presentation.proofs.Scans.{numbers, within, better, no_better}
 use Rattle.presentation.proofs.prescribe.Open.pivot.Goals as goal
 
 pub loop-j-preserved : goal.loop-j-preserved
