@@ -1,6 +1,7 @@
 -- The first line of a text, and the first field of a line.
-use Rattle.std.proofs.Common.{sym, ◌≡◌, ℕ, suc, ◌+◌, ◌-◌, ◌<◌, ◌≤◌, Bool, true, false, cond, not, eqb, [], ◌∷◌, length, get_or, take, drop, take_while, add-one, ap, ◌∙◌, refl, arith}
+use Rattle.std.proofs.Common.{sym, ◌≡◌, ◌≢◌, ℕ, zero, suc, ◌+◌, ◌-◌, ◌<◌, ◌≤◌, Bool, true, false, cond, not, eqb, [], ◌∷◌, length, get_or, take, drop, take_while, add-one, ap, ◌∙◌, refl, arith}
 use Rattle.std.specs.List.{prefix_len}
+use Rattle.std.proofs.lemmas.Bool.{ne_eqb}
 use Rattle.std.proofs.lemmas.List.{take_rest, take_all, drop_all, length-drop, get_or-drop}
 use Rattle.std.proofs.lemmas.List.Sums.{prefix_len_stops}
 use Rattle.std.proofs.lemmas.List.Folds.{length-prefix_len}
@@ -19,6 +20,23 @@ first_line (b ∷ (c ∷ s)) l =
     let more : 1 + n ≡ suc n = omega arith in
     elim (eqb b 10) as (λ v. cond v ([] ∷ lines (c ∷ s)) (onto b (lines (c ∷ s))) ≡ take (cond (not v) (1 + n) 0) (b ∷ (c ∷ s)) ∷ lines (drop (suc (cond (not v) (1 + n) 0)) (b ∷ (c ∷ s))))
     [ true ↦ refl | false ↦ rw more (ap (onto b) (first_line (c ∷ s) (omega arith))) ]
+
+-- the first line feed, by its place
+feed_after : (s : Bytes) (i : ℕ) → i < length s → get_or s i 0 ≡ 10 → ((k : ℕ) → k < i → get_or s k 0 ≢ 10) → i ≡ prefix_len no_feed s
+feed_after [] i l here before = absurd (omega arith)
+feed_after (b ∷ s) zero l here before = rw here refl
+feed_after (b ∷ s) (suc i) l here before = rw (ne_eqb b 10 (before 0 (omega arith))) (omega (arith, feed_after s i (omega arith) here (λ k h. before (suc k) (omega arith))))
+
+pub feed_at : (s : Bytes) (i : ℕ) → i < length s → get_or s i 0 ≡ 10 → ((k : ℕ) → k < i → get_or s k 0 ≢ 10) → i ≡ length (take_while no_feed s)
+feed_at s i l here before = feed_after s i l here before ∙ sym (length-prefix_len no_feed s)
+
+-- no line feed at any place
+none_after : (s : Bytes) → ((k : ℕ) → k < length s → get_or s k 0 ≢ 10) → length s ≡ prefix_len no_feed s
+none_after [] none = refl
+none_after (b ∷ s) none = rw (ne_eqb b 10 (none 0 (omega arith))) (omega (arith, none_after s (λ k h. none (suc k) (omega arith))))
+
+pub none_at : (s : Bytes) → ((k : ℕ) → k < length s → get_or s k 0 ≢ 10) → length s ≡ length (take_while no_feed s)
+none_at s none = none_after s none ∙ sym (length-prefix_len no_feed s)
 
 -- up to the first line feed
 pub line_cut : (s : Bytes) (i : ℕ) → i ≡ length (take_while no_feed s) → i < length s → lines s ≡ take i s ∷ lines (take (length s - (i + 1)) (drop (i + 1) s))

@@ -1,3 +1,4 @@
+pub mod Counts
 pub mod Cuts
 pub mod Decimal
 pub mod Filling

@@ -43,13 +43,14 @@ impl<'a> Lines<'a> {
     }
 }
 
-// The length of the first line of `text`. This and the two like it below stay apart: one that took the
-// test would have to state what the test answers.
-fn line_length(text: &[u8]) -> usize
-    ensures value { result ≡ length (take_while (λ b. not (b == 10)) text.now) }
-    ensures bound { result ≤ length text.now }
+// A text without a line feed is one line, and nothing follows it. Not inlined: else the start of every next line would be
+// computed for both cases, which is slower where lines are short.
+#[inline(never)]
+fn last_line(text: &[u8]) -> (&[u8], &[u8])
+    ensures line { result.0.now ≡ text.now }
+    ensures rest { result.1.now ≡ [] }
 {
-    text.iter().take_while(|b| **b != b'\n').count()
+    (text, &[])
 }
 
 // The first line of `text`, and what follows its line feed.
@@ -62,11 +63,9 @@ fn first_line(text: &[u8]) -> Option<(&[u8], &[u8])>
     if text.is_empty() {
         return None;
     }
-    let end = line_length(text);
-    if end < text.len() {
-        Some((&text[..end], &text[end + 1..]))
-    } else {
-        Some((text, &[]))
+    match text.iter().position(|b| *b == b'\n') {
+        Some(end) => Some((&text[..end], &text[end + 1..])),
+        None => Some(last_line(text)),
     }
 }
 
@@ -84,7 +83,8 @@ pub(crate) fn field_ends(text: &[u8]) -> bool
     text.first().is_none_or(|b| blank(*b))
 }
 
-// How many blanks `line` begins with.
+// How many blanks `line` begins with. This and `field_length` stay apart: one that took the test would have to state what
+// the test answers.
 fn blanks(line: &[u8]) -> usize
     ensures value { result ≡ length (take_while layout.blank line.now) }
     ensures bound { result ≤ length line.now }

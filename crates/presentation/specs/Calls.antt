@@ -37,7 +37,7 @@ use Rattle.presentation.specs.Operations.{Three, Performed, FirstUnfit}
 use Rattle.presentation.specs.Places.{Written, Grown, Identity}
 use Rattle.presentation.specs.Products.{Put, UnfitSum}
 use Rattle.presentation.specs.Rests.{RestZero, Placed, operation}
-use Rattle.presentation.specs.Shapes.{Shape, shape}
+use Rattle.presentation.specs.Shapes.{Shape, shape, Bounded}
 
 pub record LongAdd {E : Type 0} (n : ℕ) (x q : List E) (t : LentAdd E) : Type 0 where
   pub row : n ≤ length x
@@ -65,7 +65,7 @@ after Advance s = shape s.m s.n (s.c + 1)
 
 module _ {E S : Type 0} (m : Model E S) where
   abbrev pub Opening : ℕ → List E → List E → List E → List E → Result Shape CallFault → Type 0
-  Opening n q q' r r' (Ok s) = (s ≡ shape 0 n 0) × (1024 ≤ length q) × (1024 ≤ length q') × Identity m n q r × Identity m n q' r'
+  Opening n q q' r r' (Ok s) = (s ≡ shape 0 n 0) × Bounded s × (1024 ≤ length q) × (1024 ≤ length q') × Identity m n q r × Identity m n q' r'
   Opening n q q' r r' (Err Short) = (r ≡ q) × (r' ≡ q') × ((length q < 1024) ⊎ (length q' < 1024))
   Opening n q q' r r' (Err Generators) = (r ≡ q) × (r' ≡ q') × (1024 ≤ length q) × (1024 ≤ length q') × ((n ≡ 0) ⊎ (32 < n))
   Opening n q q' r r' (Err Full) = ⊥
@@ -85,8 +85,8 @@ module _ {E S : Type 0} (m : Model E S) where
   Accepting k n row right old new (Err Generators) = ⊥
 
   abbrev pub Adding : Shape → List E → List E → LentAdd E → LentAdd E → Result Shape (Shape × CallFault) → Type 0
-  Adding s row right old new (Ok o) = (o ≡ shape (s.m + 1) s.n 0) × Accepting s.m s.n row right old new (Ok tt)
-  Adding s row right old new (Err p) = (p.0 ≡ s) × Accepting s.m s.n row right old new (Err p.1)
+  Adding s row right old new (Ok o) = (o ≡ shape (s.m + 1) s.n 0) × Bounded o × Accepting s.m s.n row right old new (Ok tt)
+  Adding s row right old new (Err p) = (p.0 ≡ s) × Bounded p.0 × Accepting s.m s.n row right old new (Err p.1)
 
   abbrev pub by_rows : LentStep E → Three E
   by_rows t = record { work = t.work; transform = t.left; inverse = t.left_inverse }
@@ -122,9 +122,9 @@ module _ {E S : Type 0} (m : Model E S) where
   Refused s t Full = ⊥
 
   abbrev pub Stepping : Shape → LentStep E → LentStep E → Result Step (Shape × CallFault) → Type 0
-  Stepping s t t' (Ok (step.Stepped o)) = LongStep t × Next s t o t'
-  Stepping s t t' (Ok (step.Done f)) = (f ≡ s) × (t' ≡ t) × LongStep t × RestZero m s t.work
-  Stepping s t t' (Err p) = (p.0 ≡ s) × (t' ≡ t) × Refused s t p.1
+  Stepping s t t' (Ok (step.Stepped o)) = LongStep t × Bounded o × Next s t o t'
+  Stepping s t t' (Ok (step.Done f)) = (f ≡ s) × Bounded f × (t' ≡ t) × LongStep t × RestZero m s t.work
+  Stepping s t t' (Err p) = (p.0 ≡ s) × Bounded p.0 × (t' ≡ t) × Refused s t p.1
 
   -- k steps lead from s and t
   pub data Reach (s : Shape) (t : LentStep E) : ℕ → Shape → LentStep E → Type 0 where
@@ -138,6 +138,6 @@ module _ {E S : Type 0} (m : Model E S) where
   Stopped budget s t k s' t' Full = ⊥
 
   abbrev pub Running : ℕ → Shape → LentStep E → LentStep E → Result Run (Shape × ℕ × CallFault) → Type 0
-  Running budget s t t' (Ok (run.Done f k)) = LongStep t × (k ≤ budget) × Reach s t k f t' × RestZero m f t'.work
-  Running budget s t t' (Ok (run.Spent o k)) = LongStep t × (k ≡ budget) × Reach s t k o t'
-  Running budget s t t' (Err p) = Stopped budget s t p.1 p.0 t' p.2
+  Running budget s t t' (Ok (run.Done f k)) = LongStep t × Bounded f × (k ≤ budget) × Reach s t k f t' × RestZero m f t'.work
+  Running budget s t t' (Ok (run.Spent o k)) = LongStep t × Bounded o × (k ≡ budget) × Reach s t k o t'
+  Running budget s t t' (Err p) = Bounded p.0 × Stopped budget s t p.1 p.0 t' p.2

@@ -24,6 +24,7 @@ impl<'a, E> Model for Grid<'a, E> {
 
 impl<E: Ring> Grid<'_, E> {
     // Entry k of row or column i.
+    #[inline(always)]
     pub(crate) fn entry(&self, axis: Axis, i: usize, k: usize) -> E
         requires line { i < 32 }
         requires entry { k < 32 }

@@ -38,7 +38,9 @@ pub enum Operation<E> {
 }
 
 impl<E: Ring> Update<E> {
-    // The new entry, of the one in `to` and the one in `from`.
+    // The new entry, of the one in `to` and the one in `from`. Inlined, as `new_entry` and `Grid::entry`: so the choices of
+    // axis and change are made once a line and not at each entry.
+    #[inline(always)]
     fn entry(&self, x: &E, y: &E) -> Result<E, ElementFault>
         ensures { NewEntry E.model (changed E.model self.now.change (E.model.mean x.now) (E.model.mean y.now)) result }
     {
@@ -74,6 +76,7 @@ impl<E: Ring> Update<E> {
     }
 
     // Entry k of row or column `to`, after the update.
+    #[inline(always)]
     fn new_entry(&self, t: &Grid<'_, E>, axis: Axis, k: usize) -> Result<E, ElementFault>
         requires within { Within (Combine self.now) }
         requires entry { k < 32 }

@@ -45,6 +45,13 @@ impl<S> Presentation<S> {
             state: PhantomData,
         }
     }
+
+    // Shows that the numbers keep their bounds, to whoever holds a presentation or is lent one.
+    pub fn bounds(&self)
+        ensures { Bounded self.now }
+    {
+        let _ = &self.m;
+    }
 }
 
 // A presentation that takes steps.

@@ -103,6 +103,8 @@ impl Open {
         if is_short(work, left, right) {
             return Err((self, 0, CallFault::Short));
         }
+        // the loop keeps the bounds of the numbers
+        self.bounds();
         let mut state = self;
         for count in 0..budget {
             let Some(line) = state.prescribe(&Grid { cells: work }) else {
