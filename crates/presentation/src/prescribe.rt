@@ -40,6 +40,10 @@ impl Open {
         for i in self.c..self.m {
             for j in self.c..self.n {
                 let size = w.entry(Axis::Row, i, j).size();
+                // none is less that is not zero, and the ones before are larger or zero
+                if size == 1 {
+                    return Some((i, j));
+                }
                 if is_better(size, least) {
                     least = Some((size, (i, j)));
                 }
